@@ -1,13 +1,11 @@
 -- What holds of tables that a load accepts: the laws on which later proofs lean, with a name for each, proved once of the definition.
 -- Assumes nothing.
-use Prim.Native.Nat.{ℕ, suc, _+_, _≤_, _<_}
-use mathlib.Core.Path.{_≡_, _≢_, refl}
-use mathlib.Core.Bool.{Bool, true, false}
+use Prim.Native.Nat.{ℕ, _+_, _≤_, _<_}
+use mathlib.Core.Path.{_≡_}
+use mathlib.Core.Bool.{false}
 use mathlib.Core.Logic.{_⊎_}
-use Rattle.model.specs.Words.{between}
 use Rattle.model.specs.Tables.{Tables, records, windows, ports, portsEnd, channels, mover, windowPartition, windowLength, Row, row, room, sampling, queuing, source, destination}
 use Rattle.model.specs.Tables.{nameStart, sameName, portRecord, sourcePort, destinations, destinationPort}
-use Rattle.model.specs.Load.{accepts}
 
 -- the ranges of a port row
 pub record RowRanges (r : Row) : Type 0 where
