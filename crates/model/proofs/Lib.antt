@@ -4,5 +4,10 @@ pub mod Order
 pub mod Rows
 pub mod Ends
 pub mod Accepted
+pub mod Refusals
+pub mod Lists
+pub mod Ranges
+pub mod RangesKept
+pub mod Reached
 pub mod Computing
 pub mod Worked

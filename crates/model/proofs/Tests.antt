@@ -7,7 +7,7 @@ use mathlib.Core.Logic.{_⊎_, inl, inr}
 use native.Mathlib.Omega.{arith}
 use lib.Dec.{leb, ltb}
 use borrow.Author.Tests.{leb-true, le-leb, ltb-true, ltb-false}
-use Rattle.model.specs.Words.{between}
+use Rattle.model.specs.Words.{if_then_else_, between}
 
 pub both-left : (a b : Bool) → (a && b) ≡ true → a ≡ true
 both-left true b e = refl
@@ -47,3 +47,8 @@ three a b = go (ltb a b) (ltb b a) refl refl
     go true y p q = inl (ltb-true a b p)
     go false true p q = inr (inr (ltb-true b a q))
     go false false p q = inr (inl (omega (arith, ltb-false a b p, ltb-false b a q)))
+
+-- what holds of both arms, each under its test, holds of the choice
+pub by-test : {A : Type 0} (P : A → Type 0) (b : Bool) {x y : A} → (b ≡ true → P x) → (b ≡ false → P y) → P (if b then x else y)
+by-test P true f g = f refl
+by-test P false f g = g refl
