@@ -10,4 +10,6 @@ pub mod Ranges
 pub mod RangesKept
 pub mod Reached
 pub mod Computing
+pub mod Laid
 pub mod Worked
+pub mod Edges
