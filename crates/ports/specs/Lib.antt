@@ -1,0 +1,2 @@
+-- What the lent arrays hold of each port.
+pub mod Held

@@ -1,0 +1,115 @@
+// The ports of a state in two lent arrays, and the store of one of them taken out by value and put back.
+ghost use mathlib.Core.Path.{_≡_};
+ghost use mathlib.Core.List.{_∷_};
+ghost use Prim.Native.Nat.{_+_, _*_, _<_};
+ghost use lib.Seq.{paste};
+ghost use lib.ListN.{length, getD, set, drop};
+ghost use Rattle.ports.specs.Held.{rowOf, blockOf, storeAt, portAt, RowPut, BlockPut, PortPut};
+ghost use Rattle.model.specs.State.{withQueue};
+ghost use Rattle.stores.specs.Ring.{queueOf};
+use stores::Store;
+
+pub const CREATED: usize = 0;
+
+pub const VALIDITY: usize = 1;
+
+pub const ARRIVAL: usize = 2;
+
+pub const OLDEST: usize = 3;
+
+pub const COUNT: usize = 4;
+
+// One of the thirteen numbers of port k.
+pub fn number(numbers: &[u32], k: usize, j: usize) -> u32
+    requires { ⌜ (length (now numbers) ≡ 832) × (k < 64) × (j < 13) ⌝ }
+    ensures { λ r. ⌜ r ≡ getD (rowOf (now (numbers .entry)) k) j 0 ⌝ }
+{
+    numbers[13 * k + j]
+}
+
+pub fn set_number(numbers: &mut [u32], k: usize, j: usize, v: u32)
+    requires { ⌜ (length (now numbers) ≡ 832) × (k < 64) × (j < 13) ⌝ }
+    ensures { λ _. ⌜ RowPut (now (numbers .entry)) (now (numbers .exit)) k (set (rowOf (now (numbers .entry)) k) j v) ⌝ }
+{
+    numbers[13 * k + j] = v;
+}
+
+// The message bytes of port k.
+fn take_block(bytes: &[u8], k: usize) -> [u8; 512]
+    requires { ⌜ (length (now bytes) ≡ 32768) × (k < 64) ⌝ }
+    ensures { λ r. ⌜ r ≡ blockOf (now (bytes .entry)) k ⌝ }
+{
+    let at = 512 * k;
+    let mut block = [0u8; 512];
+    let mut i: usize = 0;
+    while i < 512 {
+        block[i] = bytes[at + i];
+        i = i + 1;
+    }
+    block
+}
+
+fn put_block(bytes: &mut [u8], k: usize, block: [u8; 512])
+    requires { ⌜ (length (now bytes) ≡ 32768) × (k < 64) ⌝ }
+    ensures { λ _. ⌜ BlockPut (now (bytes .entry)) (now (bytes .exit)) k block ⌝ }
+{
+    let at = 512 * k;
+    let mut i: usize = 0;
+    while i < 512 {
+        bytes[at + i] = block[i];
+        i = i + 1;
+    }
+}
+
+// The lengths in the eight slots of port k.
+fn take_lengths(numbers: &[u32], k: usize) -> [u32; 8]
+    requires { ⌜ (length (now numbers) ≡ 832) × (k < 64) ⌝ }
+    ensures { λ r. ⌜ r ≡ drop 5 (rowOf (now (numbers .entry)) k) ⌝ }
+{
+    let mut lengths = [0u32; 8];
+    let mut i: usize = 0;
+    while i < 8 {
+        lengths[i] = number(numbers, k, 5 + i);
+        i = i + 1;
+    }
+    lengths
+}
+
+fn put_lengths(numbers: &mut [u32], k: usize, lengths: [u32; 8])
+    requires { ⌜ (length (now numbers) ≡ 832) × (k < 64) ⌝ }
+    ensures { λ _. ⌜ RowPut (now (numbers .entry)) (now (numbers .exit)) k (paste (rowOf (now (numbers .entry)) k) 5 lengths 8) ⌝ }
+{
+    let mut i: usize = 0;
+    while i < 8 {
+        set_number(numbers, k, 5 + i, lengths[i]);
+        i = i + 1;
+    }
+}
+
+// The store of port k, taken out by value.
+pub fn take_store(numbers: &[u32], bytes: &[u8], k: usize) -> Store
+    requires { ⌜ (length (now numbers) ≡ 832) × (length (now bytes) ≡ 32768) × (k < 64) ⌝ }
+    ensures { λ r. ⌜ r ≡ storeAt (now (numbers .entry)) (now (bytes .entry)) k ⌝ }
+{
+    let block = take_block(bytes, k);
+    let lengths = take_lengths(numbers, k);
+    Store {
+        bytes: block,
+        lengths,
+        oldest: number(numbers, k, OLDEST),
+        count: number(numbers, k, COUNT),
+    }
+}
+
+// The store put back: port k holds its messages, and all else stays.
+pub fn put_store(numbers: &mut [u32], bytes: &mut [u8], k: usize, st: Store)
+    requires { ⌜ (length (now numbers) ≡ 832) × (length (now bytes) ≡ 32768) × (k < 64) ⌝ }
+    ensures { λ _. ⌜ PortPut (now (numbers .entry)) (now (bytes .entry)) (now (numbers .exit)) (now (bytes .exit)) k (withQueue (portAt (now (numbers .entry)) (now (bytes .entry)) k) (queueOf st)) ⌝ }
+{
+    let lengths = st.lengths;
+    let block = st.bytes;
+    set_number(numbers, k, OLDEST, st.oldest);
+    set_number(numbers, k, COUNT, st.count);
+    put_lengths(numbers, k, lengths);
+    put_block(bytes, k, block);
+}
