@@ -1,0 +1,94 @@
+-- Replies compared: what a partition's call may do to a state, and when two replies say the same.
+-- Assumes nothing.
+use Prim.Native.Nat.{ℕ, suc, _-_, _≤_, _<_}
+use native.Mathlib.Omega.{arith}
+use mathlib.Core.Path.{_≡_, refl, sym, ap}
+use mathlib.Core.Bool.{Bool, true, false, _&&_, _||_, not}
+use mathlib.Core.List.{List, [], _∷_}
+use lib.Dec.{eqb, ltb, leb}
+use borrow.Author.Tests.{ltb-true, leb-true, eqb-true}
+use Rattle.model.proofs.Branches.{if-both}
+use Rattle.model.proofs.Found.{and-left, and-right, and-four, first-passes}
+use Rattle.model.specs.Words.{if_then_else_, between}
+use Rattle.model.specs.Tables.{Tables, ports, row}
+use Rattle.model.specs.State.{State, Port, idle, normal, coldStart, warmStart, modeOf, withPort, port, isCreated}
+use Rattle.model.specs.Events.{Event, Call, need}
+use Rattle.model.specs.Events.{create-sampling-port, get-sampling-port-id, create-queuing-port, get-queuing-port-id, set-partition-mode}
+use Rattle.model.specs.Answers.{Told, nothingTold, toldId, invalid-param, invalid-config, invalid-mode, no-action}
+use Rattle.model.specs.Services.{Reply, refuse, done, Served, refuses, serves, atPort, isNamed, lookUp, made, create, getId, own, serve, useOwn, withMode, setMode, service}
+
+-- a call of partition p refuses, or tells something and leaves the state, replaces one port of the caller, or sets the caller's mode
+pub data CallReply (t : Tables) (s : State) (p : ℕ) : Reply → Type 0 where
+  refusing : (code : ℕ) → CallReply t s p (refuse code)
+  telling : (v : Told) → CallReply t s p (done v s)
+  porting : (v : Told) (k : ℕ) (q : Port) → k < ports t → row t k .owner ≡ p → CallReply t s p (done v (withPort s k q))
+  moding : (v : Told) (m : ℕ) → CallReply t s p (done v (withMode t s p m))
+
+-- a name is looked up among the caller's own ports
+pub looked-up : (t : Tables) (p mode : ℕ) (e : Event) → lookUp t p mode e < ports t → row t (lookUp t p mode e) .owner ≡ p
+unfolding lookUp isNamed
+looked-up t p mode e there =
+    eqb-true _ _ (and-left _ _ (and-left _ _ (first-passes (isNamed t p mode e) (ports t) 0 (omega arith))))
+
+-- an own port has a row, the caller owns it, and it is created
+module _ (t : Tables) (s : State) (p : ℕ) (f : Call) where
+  own-parts :
+      own t s p f ≡ true
+      → (between 1 (ports t) (f .id) ≡ true) × (eqb (row t (f .id - 1) .owner) p ≡ true)
+      × (eqb (row t (f .id - 1) .mode) (need (f .code) .mode) ≡ true) × (isCreated (port s (f .id - 1)) ≡ true)
+  unfolding own
+  own-parts is = and-four (between 1 (ports t) (f .id)) (eqb (row t (f .id - 1) .owner) p) (eqb (row t (f .id - 1) .mode) (need (f .code) .mode)) (isCreated (port s (f .id - 1))) is
+
+  pub own-there : own t s p f ≡ true → f .id - 1 < ports t
+  own-there is =
+      let low : 1 ≤ f .id = leb-true _ _ (and-left (leb 1 (f .id)) (leb (f .id) (ports t)) (own-parts is .0)) in
+      let high : f .id ≤ ports t = leb-true _ _ (and-right (leb 1 (f .id)) (leb (f .id) (ports t)) (own-parts is .0)) in
+      omega arith
+
+  pub own-owned : own t s p f ≡ true → row t (f .id - 1) .owner ≡ p
+  own-owned is = eqb-true _ _ (own-parts is .1)
+
+module _ (t : Tables) (s : State) (p : ℕ) where
+  at-port : (k : ℕ) → k < ports t → row t k .owner ≡ p → (served : Served) → CallReply t s p (atPort s k served)
+  at-port k there owned (refuses code) = refusing code
+  at-port k there owned (serves v q) = porting v k q there owned
+
+  mode-reply : (m : ℕ) → CallReply t s p (setMode t s p m)
+  unfolding setMode
+  mode-reply m =
+      if-both (CallReply t s p) (ltb normal m) (λ h. refusing invalid-param)
+      (λ h. if-both (CallReply t s p) (eqb m normal && eqb (modeOf s p) normal) (λ g. refusing no-action)
+      (λ g. if-both (CallReply t s p) (eqb m warmStart && eqb (modeOf s p) coldStart) (λ g. refusing invalid-mode)
+      (λ g. moding nothingTold m)))
+
+  module _ (e : Event) (f : Call) where
+    create-reply : CallReply t s p (create t s p e f)
+    unfolding create
+    create-reply =
+        let k = lookUp t p (need (f .code) .mode) e in
+        if-both (CallReply t s p) (ltb k (ports t))
+        (λ h. at-port k (ltb-true _ _ h) (looked-up t p (need (f .code) .mode) e (ltb-true _ _ h)) (made (suc k) (modeOf s p) (row t k) f (port s k)))
+        (λ h. refusing invalid-config)
+
+    get-id-reply : CallReply t s p (getId t s p e f)
+    unfolding getId
+    get-id-reply =
+        let k = lookUp t p (need (f .code) .mode) e in
+        if-both (CallReply t s p) (ltb k (ports t) && isCreated (port s k))
+        (λ h. telling (toldId (suc k))) (λ h. refusing invalid-config)
+
+    use-own-reply : (time : ℕ) → CallReply t s p (useOwn t time s p e f)
+    unfolding useOwn
+    use-own-reply time =
+        if-both (CallReply t s p) (own t s p f)
+        (λ h. at-port (f .id - 1) (own-there t s p f h) (own-owned t s p f h) (serve time (row t (f .id - 1)) e f (port s (f .id - 1))))
+        (λ h. refusing invalid-param)
+
+    pub call-reply : (time : ℕ) → CallReply t s p (service t time s p e f)
+    unfolding service
+    call-reply time =
+        if-both (CallReply t s p) (eqb (modeOf s p) idle) (λ h. refusing 15)
+        (λ h. if-both (CallReply t s p) (eqb (f .code) create-sampling-port || eqb (f .code) create-queuing-port) (λ g. create-reply)
+        (λ g. if-both (CallReply t s p) (eqb (f .code) get-sampling-port-id || eqb (f .code) get-queuing-port-id) (λ g. get-id-reply)
+        (λ g. if-both (CallReply t s p) (eqb (f .code) set-partition-mode) (λ g. mode-reply (f .choice))
+        (λ g. use-own-reply time))))
