@@ -4,5 +4,6 @@ pub mod Branches
 pub mod Found
 pub mod Replies
 pub mod Shaped
+pub mod HeldPorts
 pub mod Unwinding
 pub mod Worked
