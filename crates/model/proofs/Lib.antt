@@ -5,5 +5,7 @@ pub mod Found
 pub mod Replies
 pub mod Shaped
 pub mod HeldPorts
+pub mod PortAfter
+pub mod Matching
 pub mod Unwinding
 pub mod Worked
