@@ -3,7 +3,7 @@
 use Prim.Native.Nat.{ℕ, zero, suc, _+_, _≤_, _<_}
 use native.Mathlib.Omega.{arith}
 use mathlib.Core.Path.{_≡_, refl, sym, ap, _∙_}
-use mathlib.Core.Bool.{Bool, true, false, _&&_, _||_, and-eq-true-iff, false≢true}
+use mathlib.Core.Bool.{Bool, true, false, _&&_, _||_, and-eq-true-iff}
 use lib.Dec.{eqb}
 use borrow.Author.Tests.{eqb-true, eqb-false}
 use Rattle.model.specs.Words.{if_then_else_, any, first}
@@ -14,12 +14,10 @@ and-left a b h = and-eq-true-iff a b .0 h .0
 pub and-right : (a b : Bool) → (a && b) ≡ true → b ≡ true
 and-right a b h = and-eq-true-iff a b .0 h .1
 
-pub and-four : (a b c d : Bool) → (a && b && c && d) ≡ true → (a ≡ true) × (b ≡ true) × (c ≡ true) × (d ≡ true)
-and-four true true true true h = (refl, refl, refl, refl)
-and-four true true true false h = absurd (false≢true h)
-and-four true true false d h = absurd (false≢true h)
-and-four true false c d h = absurd (false≢true h)
-and-four false b c d h = absurd (false≢true h)
+-- the second part counts only where the first holds
+pub and-same : (a b b' : Bool) → (a ≡ true → b ≡ b') → (a && b) ≡ (a && b')
+and-same true b b' same = same refl
+and-same false b b' same = refl
 
 pub or-left : (a b : Bool) → (a || b) ≡ false → a ≡ false
 or-left false b h = refl

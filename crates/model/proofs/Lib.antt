@@ -7,5 +7,6 @@ pub mod Shaped
 pub mod HeldPorts
 pub mod PortAfter
 pub mod Matching
+pub mod CallsAlike
 pub mod Unwinding
 pub mod Worked

@@ -8,7 +8,7 @@ use mathlib.Core.List.{List, [], _∷_}
 use lib.Dec.{eqb, ltb, leb}
 use borrow.Author.Tests.{ltb-true, leb-true, eqb-true}
 use Rattle.model.proofs.Branches.{if-both}
-use Rattle.model.proofs.Found.{and-left, and-right, and-four, first-passes}
+use Rattle.model.proofs.Found.{and-left, and-right, first-passes}
 use Rattle.model.specs.Words.{if_then_else_, between}
 use Rattle.model.specs.Tables.{Tables, ports, row}
 use Rattle.model.specs.State.{State, Port, idle, normal, coldStart, warmStart, modeOf, withPort, port, isCreated}
@@ -30,23 +30,25 @@ unfolding lookUp isNamed
 looked-up t p mode e there =
     eqb-true _ _ (and-left _ _ (and-left _ _ (first-passes (isNamed t p mode e) (ports t) 0 (omega arith))))
 
--- an own port has a row, the caller owns it, and it is created
-module _ (t : Tables) (s : State) (p : ℕ) (f : Call) where
-  own-parts :
-      own t s p f ≡ true
-      → (between 1 (ports t) (f .id) ≡ true) × (eqb (row t (f .id - 1) .owner) p ≡ true)
-      × (eqb (row t (f .id - 1) .mode) (need (f .code) .mode) ≡ true) × (isCreated (port s (f .id - 1)) ≡ true)
-  unfolding own
-  own-parts is = and-four (between 1 (ports t) (f .id)) (eqb (row t (f .id - 1) .owner) p) (eqb (row t (f .id - 1) .mode) (need (f .code) .mode)) (isCreated (port s (f .id - 1))) is
+-- an own port is a row of the caller, of the service's mode, that is created
+abbrev pub ownRow : Tables → ℕ → Call → Bool
+ownRow t p f =
+    between 1 (ports t) (f .id) && eqb (row t (f .id - 1) .owner) p && eqb (row t (f .id - 1) .mode) (need (f .code) .mode)
 
-  pub own-there : own t s p f ≡ true → f .id - 1 < ports t
-  own-there is =
-      let low : 1 ≤ f .id = leb-true _ _ (and-left (leb 1 (f .id)) (leb (f .id) (ports t)) (own-parts is .0)) in
-      let high : f .id ≤ ports t = leb-true _ _ (and-right (leb 1 (f .id)) (leb (f .id) (ports t)) (own-parts is .0)) in
-      omega arith
+pub own-row-there : (t : Tables) (p : ℕ) (f : Call) → ownRow t p f ≡ true → f .id - 1 < ports t
+own-row-there t p f is =
+    let range = and-left (between 1 (ports t) (f .id)) _ (and-left (between 1 (ports t) (f .id) && eqb (row t (f .id - 1) .owner) p) _ is) in
+    let low : 1 ≤ f .id = leb-true _ _ (and-left (leb 1 (f .id)) (leb (f .id) (ports t)) range) in
+    let high : f .id ≤ ports t = leb-true _ _ (and-right (leb 1 (f .id)) (leb (f .id) (ports t)) range) in
+    omega arith
 
-  pub own-owned : own t s p f ≡ true → row t (f .id - 1) .owner ≡ p
-  own-owned is = eqb-true _ _ (own-parts is .1)
+pub own-row-owned : (t : Tables) (p : ℕ) (f : Call) → ownRow t p f ≡ true → row t (f .id - 1) .owner ≡ p
+own-row-owned t p f is =
+    eqb-true _ _ (and-right (between 1 (ports t) (f .id)) _ (and-left (between 1 (ports t) (f .id) && eqb (row t (f .id - 1) .owner) p) _ is))
+
+pub own-row : (t : Tables) (s : State) (p : ℕ) (f : Call) → own t s p f ≡ true → ownRow t p f ≡ true
+unfolding own
+own-row t s p f is = and-left (ownRow t p f) (isCreated (port s (f .id - 1))) is
 
 module _ (t : Tables) (s : State) (p : ℕ) where
   at-port : (k : ℕ) → k < ports t → row t k .owner ≡ p → (served : Served) → CallReply t s p (atPort s k served)
@@ -81,7 +83,7 @@ module _ (t : Tables) (s : State) (p : ℕ) where
     unfolding useOwn
     use-own-reply time =
         if-both (CallReply t s p) (own t s p f)
-        (λ h. at-port (f .id - 1) (own-there t s p f h) (own-owned t s p f h) (serve time (row t (f .id - 1)) e f (port s (f .id - 1))))
+        (λ h. at-port (f .id - 1) (own-row-there t p f (own-row t s p f h)) (own-row-owned t p f (own-row t s p f h)) (serve time (row t (f .id - 1)) e f (port s (f .id - 1))))
         (λ h. refusing invalid-param)
 
     pub call-reply : (time : ℕ) → CallReply t s p (service t time s p e f)
