@@ -5,16 +5,17 @@ use native.Mathlib.Omega.{arith}
 use mathlib.Core.Path.{_≡_, refl, sym, ap, ap₂, _∙_}
 use mathlib.Core.Bool.{Bool, true, false, _&&_}
 use mathlib.Core.List.{List, [], _∷_}
+use mathlib.Core.Logic.{_≢_}
 use lib.Dec.{leb, ltb, eqb}
 use lib.ListN.{length, getD}
 use lib.Seq.{ext-getD}
-use borrow.Author.Tests.{ltb-true, leb-true, eqb-true, lt-ltb, le-ltb, le-leb, ne-eqb}
+use borrow.Author.Tests.{ltb-true, leb-true, eqb-true, lt-ltb, le-ltb, le-leb, eq-eqb, eqb-false, ne-eqb}
 use Rattle.model.proofs.Branches.{if-both, if-alike}
 use Rattle.model.proofs.Found.{and-left, and-right}
 use Rattle.model.proofs.Shaped.{Shaped}
 use Rattle.model.specs.Words.{if_then_else_}
-use Rattle.model.specs.Tables.{Tables, channels, Row, row, destination, sourcePort}
-use Rattle.model.specs.State.{Message, Clock, Port, State, fresh, partitions, modeOf, port}
+use Rattle.model.specs.Tables.{Tables, channels, Row, row, source, destination, sourcePort}
+use Rattle.model.specs.State.{Message, Clock, Port, State, fresh, partitions, modeOf, port, withQueue}
 use Rattle.model.specs.Step.{scheduler, firstChannel}
 use Rattle.model.specs.Flow.{Holding, clockHeld, queueHeld, partHeld, nothingHeld, heldPort, heldPorts, isPartition, isChannel, holds}
 
@@ -22,6 +23,31 @@ use Rattle.model.specs.Flow.{Holding, clockHeld, queueHeld, partHeld, no
 pub record Alike (t : Tables) (p : ℕ) (s s' : State) : Type 0 where
   pub mode : modeOf s p ≡ modeOf s' p
   pub held : (k : ℕ) → heldPort p (row t k) (port s k) ≡ heldPort p (row t k) (port s' k)
+
+-- of another's port nothing
+pub held-nothing : (p : ℕ) (r : Row) → r .owner ≢ p → (q : Port) → heldPort p r q ≡ fresh
+unfolding heldPort
+held-nothing p r other q = rw (ne-eqb (r .owner) p other)
+
+-- of an own port all, if it is a destination, and else the marks
+module _ (p : ℕ) (r : Row) (owned : r .owner ≡ p) where
+  pub held-whole : r .direction ≡ destination → (q : Port) → heldPort p r q ≡ q
+  unfolding heldPort
+  held-whole to q = rw (owned, to, eq-eqb p p refl)
+
+  pub held-marks :
+      r .direction ≡ source → (q : Port)
+      → heldPort p r q ≡ record { created = q .created; arrival = 0; validity = q .validity; queue = [] }
+  unfolding heldPort
+  held-marks from q = rw (owned, from, eq-eqb p p refl)
+
+-- the queue of a source port is not its owner's
+pub held-unqueued : (p : ℕ) (r : Row) → r .direction ≡ source → (q : Port) (messages : List Message) → heldPort p r (withQueue q messages) ≡ heldPort p r q
+held-unqueued p r from q messages = go (eqb (r .owner) p) refl
+  where
+    go : (b : Bool) → eqb (r .owner) p ≡ b → heldPort p r (withQueue q messages) ≡ heldPort p r q
+    go true e = held-marks p r (eqb-true _ _ e) from (withQueue q messages) ∙ sym (held-marks p r (eqb-true _ _ e) from q)
+    go false e = held-nothing p r (eqb-false _ _ e) (withQueue q messages) ∙ sym (held-nothing p r (eqb-false _ _ e) q)
 
 -- port by port
 held-fresh : (p : ℕ) (r : Row) → heldPort p r fresh ≡ fresh

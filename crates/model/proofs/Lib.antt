@@ -8,5 +8,6 @@ pub mod HeldPorts
 pub mod PortAfter
 pub mod Matching
 pub mod CallsAlike
+pub mod Hands
 pub mod Unwinding
 pub mod Worked

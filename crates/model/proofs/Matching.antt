@@ -11,6 +11,7 @@ use lib.Dec.{ltb, eqb}
 use lib.ListN.{length}
 use borrow.Author.Tests.{eqb-true, eq-eqb}
 use Rattle.model.proofs.Branches.{if-both, if-alike}
+use Rattle.model.proofs.HeldPorts.{held-whole, held-marks}
 use Rattle.model.specs.Words.{if_then_else_}
 use Rattle.model.specs.Tables.{Row, sampling, source, destination}
 use Rattle.model.specs.State.{Message, Port, fresh, normal, withQueue, isCreated}
@@ -29,18 +30,6 @@ pub record Matching (also : Bool) (p : ℕ) (r : Row) (q q' : Port) : Type 0 whe
 pub data SameServed (R : Port → Port → Type 0) : Served → Served → Type 0 where
   bothRefuse : (code : ℕ) → SameServed R (refuses code) (refuses code)
   bothServe : (v : Told) (q q' : Port) → R q q' → SameServed R (serves v q) (serves v q')
-
--- what an owner holds of its port
-module _ (p : ℕ) (r : Row) (owned : r .owner ≡ p) where
-  pub held-whole : r .direction ≡ destination → (q : Port) → heldPort p r q ≡ q
-  unfolding heldPort
-  held-whole to q = rw (owned, to, eq-eqb p p refl)
-
-  pub held-marks :
-      r .direction ≡ source → (q : Port)
-      → heldPort p r q ≡ record { created = q .created; arrival = 0; validity = q .validity; queue = [] }
-  unfolding heldPort
-  held-marks from q = rw (owned, from, eq-eqb p p refl)
 
 -- at a destination port
 module _ (also : Bool) (p : ℕ) (r : Row) (owned : r .owner ≡ p) (to : r .direction ≡ destination) where
