@@ -9,5 +9,7 @@ pub mod PortAfter
 pub mod Matching
 pub mod CallsAlike
 pub mod Hands
+pub mod CallsKeep
+pub mod Moves
 pub mod Unwinding
 pub mod Worked
