@@ -11,5 +11,7 @@ pub mod CallsAlike
 pub mod Hands
 pub mod CallsKeep
 pub mod Moves
+pub mod CallConditions
+pub mod MoveConditions
 pub mod Unwinding
 pub mod Worked
