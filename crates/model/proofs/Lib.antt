@@ -13,5 +13,6 @@ pub mod CallsKeep
 pub mod Moves
 pub mod CallConditions
 pub mod MoveConditions
+pub mod Conditions
 pub mod Unwinding
 pub mod Worked

@@ -9,7 +9,7 @@ use Rattle.model.proofs.Accepted.{Accepted}
 use Rattle.model.proofs.Hands.{no-destination-owner}
 use Rattle.model.proofs.HeldPorts.{same-part, same-queue, same-holding}
 use Rattle.model.proofs.Moves.{move-clock, move-other-source, move-others, move-alike, move-queue, move-answer}
-use Rattle.model.proofs.Shaped.{Shaped}
+use Rattle.model.proofs.Shaped.{Shaped, transmit-shaped}
 use Rattle.model.specs.Tables.{Tables, channels, sourcePort}
 use Rattle.model.specs.State.{State, port}
 use Rattle.model.specs.Services.{transmit, transmitOldest}
@@ -21,12 +21,16 @@ module _ (t : Tables) (laws : Accepted t) (timeAt : ℕ → ℕ) (c : ℕ) (here
   abbrev moved : State → State
   moved s = stateOf s (transmit t timeAt s c)
 
-  module _ (s : State) (shape : Shaped t s) (left : Shaped t (moved s)) where
+  moved-shaped : (s : State) → Shaped t s → Shaped t (moved s)
+  unfolding transmit
+  moved-shaped s shape = transmit-shaped t timeAt s c (port s (sourcePort t c) .queue) shape
+
+  module _ (s : State) (shape : Shaped t s) where
     pub move-leaves : (d : ℕ) → eqb (firstChannel + c) d ≡ false → hands t (firstChannel + c) d ≡ false → holds t (moved s) d ≡ holds t s d
     unfolding transmit
     move-leaves d other none =
         let queue = port s (sourcePort t c) .queue in
-        same-holding t (moved s) s d left shape
+        same-holding t (moved s) s d (moved-shaped s shape) shape
         (λ is. move-clock t laws timeAt c here s queue)
         (λ few. move-others t laws timeAt c here s queue d shape (no-destination-owner t c here d none))
         (λ b there is. ap (λ q. q .queue) (move-other-source t laws timeAt c here s queue b there
@@ -44,13 +48,13 @@ module _ (t : Tables) (laws : Accepted t) (timeAt : ℕ → ℕ) (c : ℕ) (here
         ∙ ap (λ l. answerOf (firstChannel + c) (transmitOldest t timeAt s' c l)) sources-same
 
     pub move-carries :
-        Shaped t (moved s) → Shaped t (moved s') → (d : ℕ) → s .clock ≡ s' .clock → holds t s d ≡ holds t s' d
+        (d : ℕ) → s .clock ≡ s' .clock → holds t s d ≡ holds t s' d
         → holds t (moved s) d ≡ holds t (moved s') d
     unfolding transmit
-    move-carries left left' d clock same =
+    move-carries d clock same =
         let queue = port s (sourcePort t c) .queue in
         let queue' = port s' (sourcePort t c) .queue in
-        same-holding t (moved s) (moved s') d left left'
+        same-holding t (moved s) (moved s') d (moved-shaped s shape) (moved-shaped s' shape')
         (λ is. move-clock t laws timeAt c here s queue ∙ clock ∙ sym (move-clock t laws timeAt c here s' queue'))
         (λ few. rw (← sources-same) (move-alike t laws timeAt c here s s' shape shape' queue d (same-part t s s' d few same)))
         (λ b there is. rw (← sources-same) (move-queue t laws timeAt c here s s' shape shape' queue b there (same-queue t s s' b there (rw is at same))))

@@ -48,7 +48,7 @@ module _ (t : Tables) where
         inWindow = shape .inWindow;
       }
 
-  call-shaped : (s : State) (p : ℕ) (r : Reply) → CallReply t s p r → Shaped t s → Shaped t (stateOf s r)
+  pub call-shaped : (s : State) (p : ℕ) (r : Reply) → CallReply t s p r → Shaped t s → Shaped t (stateOf s r)
   call-shaped s p r (refusing code) shape = shape
   call-shaped s p r (telling v) shape = shape
   call-shaped s p r (porting v k q there owned) shape = port-shaped s k q shape
@@ -60,13 +60,13 @@ module _ (t : Tables) where
       delivered-shaped timeAt c m n (suc j) _
       (port-shaped s (destinationPort t c j) (arrived (timeAt (destinationPort t c j)) (row t (destinationPort t c j)) m (port s (destinationPort t c j))) shape)
 
-  transmit-shaped : (timeAt : ℕ → ℕ) (s : State) (c : ℕ) (queue : List Message) → Shaped t s → Shaped t (stateOf s (transmitOldest t timeAt s c queue))
+  pub transmit-shaped : (timeAt : ℕ → ℕ) (s : State) (c : ℕ) (queue : List Message) → Shaped t s → Shaped t (stateOf s (transmitOldest t timeAt s c queue))
   transmit-shaped timeAt s c [] shape = shape
   transmit-shaped timeAt s c (m ∷ rest) shape =
       delivered-shaped timeAt c m (destinations t c) 0 _ (port-shaped s (sourcePort t c) (withQueue (port s (sourcePort t c)) rest) shape)
 
   module _ (laws : Accepted t) where
-    clock-shaped : (s : State) → Shaped t s → Shaped t (stateOf s (schedule t s))
+    pub clock-shaped : (s : State) → Shaped t s → Shaped t (stateOf s (schedule t s))
     unfolding schedule tick
     clock-shaped s shape =
         record {
