@@ -84,8 +84,10 @@ module _ (t : Tables) (e : Event) (p time : ℕ) (f : Call) where
       where
         also : ℕ → Bool
         also j = eqb j k
+
         before : CallerAlike t p also s s'
         before = caller-alike t p also s s' own-alike (λ j h. rw (eqb-true j k h) same)
+
         go : (b : Bool) → eqb (row t k .owner) p ≡ b → port (called s) k .queue ≡ port (called s') k .queue
         go true is = same-after (CallerAlike t p also) s s' _ _ before (both also before) .at k .queue (eq-eqb k k refl)
         go false other =

@@ -124,7 +124,9 @@ module _ (t : Tables) (laws : Accepted t) (p : ℕ) (few : p < 16) (also : ℕ �
       where
         creates : Bool
         creates = eqb (f .code) create-sampling-port || eqb (f .code) create-queuing-port
+
         asks : Bool
         asks = eqb (f .code) get-sampling-port-id || eqb (f .code) get-queuing-port-id
+
         sets : Bool
         sets = eqb (f .code) set-partition-mode

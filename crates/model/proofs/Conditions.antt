@@ -121,9 +121,9 @@ module _ (t : Tables) (laws : Accepted t) where
         doers = λ s s' e shape shape' agree. ap doerIn (turn-same s s' shape shape' (agreed-clock s s' agree) e);
         leaves = λ s e d shape other none. turn-leaves s e (turn t s e) (turn-fits s e shape) shape d other none;
         carries = λ s s' e d shape shape' agree mine same.
-          turn-carries s s' shape shape' (agreed-clock s s' agree) e (turn t s e) (turn-fits s e shape) mine d same
-          ∙ ap (λ whose. holds t (stateOf s' (replyIn t s' e whose)) d) (turn-same s s' shape shape' (agreed-clock s s' agree) e);
+            turn-carries s s' shape shape' (agreed-clock s s' agree) e (turn t s e) (turn-fits s e shape) mine d same
+            ∙ ap (λ whose. holds t (stateOf s' (replyIn t s' e whose)) d) (turn-same s s' shape shape' (agreed-clock s s' agree) e);
         tells = λ s s' e shape shape' agree mine.
-          turn-tells s s' shape shape' (agreed-clock s s' agree) e (turn t s e) (turn-fits s e shape) mine
-          ∙ ap (λ whose. answerOf (doerIn whose) (replyIn t s' e whose)) (turn-same s s' shape shape' (agreed-clock s s' agree) e);
+            turn-tells s s' shape shape' (agreed-clock s s' agree) e (turn t s e) (turn-fits s e shape) mine
+            ∙ ap (λ whose. answerOf (doerIn whose) (replyIn t s' e whose)) (turn-same s s' shape shape' (agreed-clock s s' agree) e);
       }

@@ -14,5 +14,6 @@ pub mod Moves
 pub mod CallConditions
 pub mod MoveConditions
 pub mod Conditions
+pub mod NonInterference
 pub mod Unwinding
 pub mod Worked

@@ -64,9 +64,9 @@ module _ (also : Bool) (p : ℕ) (r : Row) (owned : r .owner ≡ p) (from : r .d
   marks-same q q' created validity queue =
       record {
         held =
-          held-marks p r owned from q
-          ∙ (λ i. record { created = created i; arrival = 0; validity = validity i; queue = [] })
-          ∙ sym (held-marks p r owned from q');
+            held-marks p r owned from q
+            ∙ (λ i. record { created = created i; arrival = 0; validity = validity i; queue = [] })
+            ∙ sym (held-marks p r owned from q');
         queue = queue;
       }
 
@@ -123,6 +123,7 @@ module _ (also : Bool) (p : ℕ) (r : Row) (owned : r .owner ≡ p) (from : r .d
       where
         puts : Bool
         puts = eqb (f .code) write-sampling-message || eqb (f .code) send-queuing-message
+
         gets : Bool
         gets = eqb (f .code) read-sampling-message || eqb (f .code) receive-queuing-message
 

@@ -65,10 +65,13 @@ module _ (t : Tables) (laws : Accepted t) (timeAt : ℕ → ℕ) (c : ℕ) (here
       where
         k : ℕ
         k = destinationPort t c j
+
         end : DestinationEnd t c j
         end = laws .destinationEnds c here j (omega arith)
+
         new : Port
         new = arrived (timeAt k) (row t k) m (port s k)
+
         new' : Port
         new' = arrived (timeAt k) (row t k) m (port s' k)
 
@@ -152,8 +155,8 @@ module _ (t : Tables) (laws : Accepted t) (timeAt : ℕ → ℕ) (c : ℕ) (here
         record {
           mode = move-mode s (m ∷ rest) d ∙ same .mode ∙ sym (move-mode s' (m ∷ rest) d);
           held =
-            delivered-alike d m (destinations t c) 0 (omega arith) (taken s rest) (taken s' rest) (taken-shaped s rest shape) (taken-shaped s' rest shape')
-            (λ k. taken-held s rest shape d k ∙ same .held k ∙ sym (taken-held s' rest shape' d k));
+              delivered-alike d m (destinations t c) 0 (omega arith) (taken s rest) (taken s' rest) (taken-shaped s rest shape) (taken-shaped s' rest shape')
+              (λ k. taken-held s rest shape d k ∙ same .held k ∙ sym (taken-held s' rest shape' d k));
         }
 
     pub move-queue :

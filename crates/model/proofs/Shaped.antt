@@ -42,8 +42,8 @@ module _ (t : Tables) where
   mode-shaped s p m shape =
       record {
         portsLength =
-          if-both (λ (qs : List Port). length qs ≡ portCount t) (eqb m normal) (λ h. shape .portsLength)
-          (λ h. length-unmade t p 0 (s .ports) ∙ shape .portsLength);
+            if-both (λ (qs : List Port). length qs ≡ portCount t) (eqb m normal) (λ h. shape .portsLength)
+            (λ h. length-unmade t p 0 (s .ports) ∙ shape .portsLength);
         modesLength = length-set (s .modes) p m ∙ shape .modesLength;
         inWindow = shape .inWindow;
       }
