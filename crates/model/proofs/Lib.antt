@@ -17,3 +17,4 @@ pub mod Conditions
 pub mod NonInterference
 pub mod Unwinding
 pub mod Worked
+pub mod WorkedFlow
