@@ -2,36 +2,13 @@
 -- Assumes nothing.
 use Prim.Native.Nat.{ℕ, _+_, _≤_, _<_}
 use mathlib.Core.Path.{_≡_}
-use mathlib.Core.Bool.{false}
+use mathlib.Core.Bool.{true, false}
 use mathlib.Core.Logic.{_⊎_}
-use Rattle.model.specs.Tables.{Tables, records, windows, ports, portsEnd, channels, mover, windowPartition, windowLength, Row, row, room, sampling, queuing, source, destination}
-use Rattle.model.specs.Tables.{nameStart, sameName, portRecord, sourcePort, destinations, destinationPort}
-
--- the ranges of a port row
-pub record RowRanges (r : Row) : Type 0 where
-  pub owned : r .owner < 16
-  pub moded : (r .mode ≡ sampling) ⊎ (r .mode ≡ queuing)
-  pub directed : (r .direction ≡ source) ⊎ (r .direction ≡ destination)
-  pub some : 1 ≤ r .largest
-  pub fewBytes : r .largest ≤ 64
-  pub keeps : 1 ≤ room r
-  pub keepsFew : room r ≤ 8
-  pub noDepth : r .mode ≡ sampling → r .depth ≡ 0
-  pub noRefresh : r .mode ≡ queuing → r .refresh ≡ 0
-  pub shortPeriod : r .refresh ≤ 1_000_000
-
--- the ends of a channel: its source, and its destinations
-pub record SourceEnd (t : Tables) (c : ℕ) : Type 0 where
-  pub there : sourcePort t c < ports t
-  pub isSource : row t (sourcePort t c) .direction ≡ source
-  pub someEnds : 1 ≤ destinations t c
-  pub fewEnds : destinations t c ≤ 8
-
-pub record DestinationEnd (t : Tables) (c j : ℕ) : Type 0 where
-  pub there : destinationPort t c j < ports t
-  pub isDestination : row t (destinationPort t c j) .direction ≡ destination
-  pub sameMode : row t (destinationPort t c j) .mode ≡ row t (sourcePort t c) .mode
-  pub takesAll : row t (sourcePort t c) .largest ≤ row t (destinationPort t c j) .largest
+use Rattle.model.specs.Tables.{Tables, records, windows, ports, portsEnd, channels, mover, windowPartition, windowLength, row, nameStart, sameName, portRecord, sourcePort, destinations, destinationPort}
+use Rattle.model.specs.Load.{accepts}
+use Rattle.model.proofs.Order.{some-window, ports-after, channels-after}
+use Rattle.model.proofs.Rows.{RowRanges, few-windows, few-ports, window-partition, window-step, row-ok, names-distinct}
+use Rattle.model.proofs.Ends.{SourceEnd, DestinationEnd, few-channels, source-end, destination-end, sources-distinct, destinations-distinct}
 
 pub record Accepted (t : Tables) : Type 0 where
   pub windowed : 0 < windows t
@@ -52,3 +29,22 @@ pub record Accepted (t : Tables) : Type 0 where
   pub namesDistinct :
       (k l : ℕ) → k < l → l < ports t → row t k .owner ≡ row t l .owner
       → sameName t (nameStart (portRecord t k)) t (nameStart (portRecord t l)) ≡ false
+
+pub accepted : (t : Tables) → accepts t ≡ true → Accepted t
+accepted t ok =
+    record {
+      windowed = some-window t ok;
+      fewWindows = few-windows t ok;
+      fewPorts = few-ports t ok;
+      fewChannels = few-channels t ok;
+      portsAfter = ports-after t ok;
+      channelsAfter = channels-after t ok;
+      window = window-partition t ok;
+      windowStep = window-step t ok;
+      rows = row-ok t ok;
+      sources = source-end t ok;
+      destinationEnds = destination-end t ok;
+      sourcesDistinct = sources-distinct t ok;
+      destinationsDistinct = destinations-distinct t ok;
+      namesDistinct = names-distinct t ok;
+    }

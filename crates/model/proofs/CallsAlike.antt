@@ -9,9 +9,8 @@ use mathlib.Core.Logic.{_⊎_}
 use lib.Dec.{ltb, eqb}
 use lib.ListN.{length}
 use borrow.Author.Tests.{ltb-true, eqb-true}
-use Rattle.model.proofs.Accepted.{Accepted, RowRanges}
-use Rattle.model.proofs.Branches.{if-alike}
-use Rattle.model.proofs.Found.{and-same}
+use Rattle.model.proofs.Accepted.{Accepted}
+use Rattle.model.proofs.Branches.{if-alike, and-same}
 use Rattle.model.proofs.Matching.{Matching, SameServed, bothRefuse, bothServe, created-matching, made-matching, serve-matching}
 use Rattle.model.proofs.PortAfter.{ports-related, mode-ports-related, mode-set}
 use Rattle.model.proofs.Replies.{looked-up, ownRow, own-row, own-row-there, own-row-owned}

@@ -8,7 +8,7 @@ use mathlib.Core.Logic.{_⊎_, inl, inr}
 use lib.Dec.{ltb, eqb}
 use borrow.Author.Tests.{ltb-true, eqb-false}
 use Rattle.model.proofs.Accepted.{Accepted}
-use Rattle.model.proofs.Branches.{if-both}
+use Rattle.model.proofs.Tests.{by-test}
 use Rattle.model.proofs.CallConditions.{call-leaves, call-tells, call-carries}
 use Rattle.model.proofs.HeldPorts.{Alike, same-clock, same-part, same-queue, same-holding}
 use Rattle.model.proofs.MoveConditions.{move-leaves, move-tells, move-carries}
@@ -38,13 +38,13 @@ turn-in-fits : (t : Tables) (owner : ℕ) → (owner < 16) ⊎ (owner ≡ mover)
 unfolding turnIn
 turn-in-fits t owner kind unknown = tt
 turn-in-fits t owner kind clockStep = tt
-turn-in-fits t owner kind (call f) = if-both (Fitting t) (eqb owner mover) (λ h. tt) (λ h. go kind h)
+turn-in-fits t owner kind (call f) = by-test (Fitting t) (eqb owner mover) (λ h. tt) (λ h. go kind h)
   where
     go : (owner < 16) ⊎ (owner ≡ mover) → eqb owner mover ≡ false → owner < 16
     go (inl few) h = few
     go (inr is) h = absurd (eqb-false owner mover h is)
 turn-in-fits t owner kind (move c) =
-    if-both (Fitting t) (eqb owner mover) (λ h. if-both (Fitting t) (ltb c (channels t)) (λ g. ltb-true _ _ g) (λ g. tt)) (λ h. tt)
+    by-test (Fitting t) (eqb owner mover) (λ h. by-test (Fitting t) (ltb c (channels t)) (λ g. ltb-true _ _ g) (λ g. tt)) (λ h. tt)
 
 module _ (t : Tables) (laws : Accepted t) where
   turn-fits : (s : State) (e : Event) → Shaped t s → Fitting t (turn t s e)

@@ -8,7 +8,8 @@ use mathlib.Core.Bool.{Bool, true, false, _&&_, _||_}
 use mathlib.Core.Logic.{_≢_}
 use lib.Dec.{eqb}
 use borrow.Author.Tests.{eqb-false}
-use Rattle.model.proofs.Found.{or-left, or-right, none-passes}
+use Rattle.model.proofs.Bounded.{any-at}
+use Rattle.model.proofs.Tests.{neither-left, neither-right}
 use Rattle.model.proofs.HeldPorts.{is-channel, channel-number}
 use Rattle.model.specs.Words.{any}
 use Rattle.model.specs.Tables.{Tables, channels, row, sourcePort, destinations, destinationPort}
@@ -27,14 +28,14 @@ module _ (t : Tables) (c : ℕ) (there : c < channels t) where
   pub not-source-owner : (p : ℕ) → hands t p (firstChannel + c) ≡ false → row t (sourcePort t c) .owner ≢ p
   unfolding hands fromOwner toOwner
   not-source-owner p none =
-      let half = or-right (eqb p scheduler) (fromOwner t p (firstChannel + c)) (or-left (eqb p scheduler || fromOwner t p (firstChannel + c)) (toOwner t p (firstChannel + c)) none) in
+      let half = neither-right (eqb p scheduler) (fromOwner t p (firstChannel + c)) (neither-left (eqb p scheduler || fromOwner t p (firstChannel + c)) (toOwner t p (firstChannel + c)) none) in
       eqb-false _ _ (rw (is-channel t c there, channel-number t c) at half)
 
   pub no-destination-owner :
       (d : ℕ) → hands t (firstChannel + c) d ≡ false → (j : ℕ) → j < destinations t c → row t (destinationPort t c j) .owner ≢ d
   unfolding hands fromOwner toOwner
   no-destination-owner d none j few =
-      let half = or-right (eqb (firstChannel + c) scheduler || fromOwner t (firstChannel + c) d) (toOwner t (firstChannel + c) d) none in
+      let half = neither-right (eqb (firstChannel + c) scheduler || fromOwner t (firstChannel + c) d) (toOwner t (firstChannel + c) d) none in
       eqb-false _ _
-      (none-passes (λ i. eqb (row t (destinationPort t c i) .owner) d) (destinations t c) 0
-      (rw (is-channel t c there, channel-number t c) at half) j (omega arith) (omega arith))
+      (any-at (λ i. eqb (row t (destinationPort t c i) .owner) d) (destinations t c) 0 j
+      (rw (is-channel t c there, channel-number t c) at half) (omega arith) (omega arith))

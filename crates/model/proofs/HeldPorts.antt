@@ -10,8 +10,8 @@ use lib.Dec.{leb, ltb, eqb}
 use lib.ListN.{length, getD}
 use lib.Seq.{ext-getD}
 use borrow.Author.Tests.{ltb-true, leb-true, eqb-true, lt-ltb, le-ltb, le-leb, eq-eqb, eqb-false, ne-eqb}
-use Rattle.model.proofs.Branches.{if-both, if-alike}
-use Rattle.model.proofs.Found.{and-left, and-right}
+use Rattle.model.proofs.Branches.{if-alike}
+use Rattle.model.proofs.Tests.{both-left, both-right, by-test}
 use Rattle.model.proofs.Shaped.{Shaped}
 use Rattle.model.specs.Words.{if_then_else_}
 use Rattle.model.specs.Tables.{Tables, channels, Row, row, source, destination, sourcePort}
@@ -53,8 +53,8 @@ held-unqueued p r from q messages = go (eqb (r .owner) p) refl
 held-fresh : (p : ℕ) (r : Row) → heldPort p r fresh ≡ fresh
 unfolding heldPort
 held-fresh p r =
-    if-both (λ (q : Port). q ≡ fresh) (eqb (r .owner) p)
-    (λ h. if-both (λ (q : Port). q ≡ fresh) (eqb (r .direction) destination) (λ g. refl) (λ g. refl))
+    by-test (λ (q : Port). q ≡ fresh) (eqb (r .owner) p)
+    (λ h. by-test (λ (q : Port). q ≡ fresh) (eqb (r .direction) destination) (λ g. refl) (λ g. refl))
     (λ h. refl)
 
 length-held : (t : Tables) (p j : ℕ) (qs : List Port) → length (heldPorts t p j qs) ≡ length qs
@@ -87,10 +87,10 @@ held-together t p qs qs' size same =
 -- a channel's number as a doer
 module _ (t : Tables) (d : ℕ) (is : isChannel t d ≡ true) where
   pub channel-there : d - firstChannel < channels t
-  channel-there = ltb-true _ _ (and-right (leb firstChannel d) _ is)
+  channel-there = ltb-true _ _ (both-right (leb firstChannel d) _ is)
 
   pub channel-from : d ≡ firstChannel + (d - firstChannel)
-  channel-from = let low = leb-true firstChannel d (and-left _ _ is) in omega arith
+  channel-from = let low = leb-true firstChannel d (both-left _ _ is) in omega arith
 
 -- what each kind of doer holds
 module _ (t : Tables) where

@@ -10,7 +10,7 @@ use mathlib.Core.Logic.{_⊎_, inl, inr}
 use lib.Dec.{ltb, eqb}
 use lib.ListN.{length}
 use borrow.Author.Tests.{eqb-true, eq-eqb}
-use Rattle.model.proofs.Branches.{if-both, if-alike}
+use Rattle.model.proofs.Branches.{if-alike}
 use Rattle.model.proofs.HeldPorts.{held-whole, held-marks}
 use Rattle.model.specs.Words.{if_then_else_}
 use Rattle.model.specs.Tables.{Row, sampling, source, destination}

@@ -9,7 +9,8 @@ use mathlib.Core.Logic.{_≢_}
 use lib.Dec.{eqb}
 use lib.ListN.{length, getD}
 use borrow.Author.Tests.{eqb-true, eqb-false}
-use Rattle.model.proofs.Accepted.{Accepted, SourceEnd, DestinationEnd}
+use Rattle.model.proofs.Accepted.{Accepted}
+use Rattle.model.proofs.Ends.{DestinationEnd}
 use Rattle.model.proofs.HeldPorts.{Alike, held-nothing, held-whole, held-unqueued}
 use Rattle.model.proofs.PortAfter.{port-other, port-same, ports-related}
 use Rattle.model.proofs.Shaped.{Shaped, port-shaped}

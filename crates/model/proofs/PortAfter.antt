@@ -10,7 +10,8 @@ use lib.Dec.{eqb}
 use lib.ListN.{length, getD, set}
 use lib.Seq.{getD-set-same, getD-set-other}
 use borrow.Author.Tests.{eqb-true, eqb-false, ne-eqb}
-use Rattle.model.proofs.Branches.{if-both, if-alike}
+use Rattle.model.proofs.Branches.{if-alike}
+use Rattle.model.proofs.Tests.{by-test}
 use Rattle.model.specs.Words.{if_then_else_}
 use Rattle.model.specs.Tables.{Tables, row}
 use Rattle.model.specs.State.{Port, State, fresh, normal, modeOf, port, withPort}
@@ -37,7 +38,7 @@ ports-related R s s' k q q' there there' new old j = go (eqb j k) refl
 unmade-at :
     (t : Tables) (p i : ℕ) (qs : List Port) (k : ℕ)
     → getD (unmade t p i qs) k fresh ≡ (if eqb (row t (i + k) .owner) p then fresh else getD qs k fresh)
-unmade-at t p i [] k = if-both (λ (q : Port). fresh ≡ q) (eqb (row t (i + k) .owner) p) (λ h. refl) (λ h. refl)
+unmade-at t p i [] k = by-test (λ (q : Port). fresh ≡ q) (eqb (row t (i + k) .owner) p) (λ h. refl) (λ h. refl)
 unmade-at t p i (q ∷ qs) zero = let e : i + 0 ≡ i = omega arith in rw e
 unmade-at t p i (q ∷ qs) (suc k) = let e : i + suc k ≡ suc i + k = omega arith in rw e (unmade-at t p (suc i) qs k)
 
@@ -57,7 +58,7 @@ module _ (t : Tables) (p m : ℕ) where
   pub mode-port-other : (s : State) (k : ℕ) → row t k .owner ≢ p → port (withMode t s p m) k ≡ port s k
   mode-port-other s k other =
       mode-port s k
-      ∙ if-both (λ (q : Port). q ≡ port s k) (eqb m normal) (λ h. refl) (λ h. rw (ne-eqb (row t k .owner) p other))
+      ∙ by-test (λ (q : Port). q ≡ port s k) (eqb m normal) (λ h. refl) (λ h. rw (ne-eqb (row t k .owner) p other))
 
   pub mode-ports-related :
       (R : ℕ → Port → Port → Type 0) (s s' : State) → ((j : ℕ) → R j fresh fresh)

@@ -7,8 +7,8 @@ use mathlib.Core.Bool.{Bool, true, false, _&&_, _||_, not}
 use mathlib.Core.List.{List, [], _∷_}
 use lib.Dec.{eqb, ltb, leb}
 use borrow.Author.Tests.{ltb-true, leb-true, eqb-true}
-use Rattle.model.proofs.Branches.{if-both}
-use Rattle.model.proofs.Found.{and-left, and-right, first-passes}
+use Rattle.model.proofs.Bounded.{first-is}
+use Rattle.model.proofs.Tests.{both-left, both-right, by-test}
 use Rattle.model.specs.Words.{if_then_else_, between}
 use Rattle.model.specs.Tables.{Tables, ports, row}
 use Rattle.model.specs.State.{State, Port, idle, normal, coldStart, warmStart, modeOf, withPort, port, isCreated}
@@ -28,7 +28,7 @@ pub data CallReply (t : Tables) (s : State) (p : ℕ) : Reply → Type 0 where
 pub looked-up : (t : Tables) (p mode : ℕ) (e : Event) → lookUp t p mode e < ports t → row t (lookUp t p mode e) .owner ≡ p
 unfolding lookUp isNamed
 looked-up t p mode e there =
-    eqb-true _ _ (and-left _ _ (and-left _ _ (first-passes (isNamed t p mode e) (ports t) 0 (omega arith))))
+    eqb-true _ _ (both-left _ _ (both-left _ _ (first-is (isNamed t p mode e) (ports t) 0 (omega arith))))
 
 -- an own port is a row of the caller, of the service's mode, that is created
 abbrev pub ownRow : Tables → ℕ → Call → Bool
@@ -37,18 +37,18 @@ ownRow t p f =
 
 pub own-row-there : (t : Tables) (p : ℕ) (f : Call) → ownRow t p f ≡ true → f .id - 1 < ports t
 own-row-there t p f is =
-    let range = and-left (between 1 (ports t) (f .id)) _ (and-left (between 1 (ports t) (f .id) && eqb (row t (f .id - 1) .owner) p) _ is) in
-    let low : 1 ≤ f .id = leb-true _ _ (and-left (leb 1 (f .id)) (leb (f .id) (ports t)) range) in
-    let high : f .id ≤ ports t = leb-true _ _ (and-right (leb 1 (f .id)) (leb (f .id) (ports t)) range) in
+    let range = both-left (between 1 (ports t) (f .id)) _ (both-left (between 1 (ports t) (f .id) && eqb (row t (f .id - 1) .owner) p) _ is) in
+    let low : 1 ≤ f .id = leb-true _ _ (both-left (leb 1 (f .id)) (leb (f .id) (ports t)) range) in
+    let high : f .id ≤ ports t = leb-true _ _ (both-right (leb 1 (f .id)) (leb (f .id) (ports t)) range) in
     omega arith
 
 pub own-row-owned : (t : Tables) (p : ℕ) (f : Call) → ownRow t p f ≡ true → row t (f .id - 1) .owner ≡ p
 own-row-owned t p f is =
-    eqb-true _ _ (and-right (between 1 (ports t) (f .id)) _ (and-left (between 1 (ports t) (f .id) && eqb (row t (f .id - 1) .owner) p) _ is))
+    eqb-true _ _ (both-right (between 1 (ports t) (f .id)) _ (both-left (between 1 (ports t) (f .id) && eqb (row t (f .id - 1) .owner) p) _ is))
 
 pub own-row : (t : Tables) (s : State) (p : ℕ) (f : Call) → own t s p f ≡ true → ownRow t p f ≡ true
 unfolding own
-own-row t s p f is = and-left (ownRow t p f) (isCreated (port s (f .id - 1))) is
+own-row t s p f is = both-left (ownRow t p f) (isCreated (port s (f .id - 1))) is
 
 module _ (t : Tables) (s : State) (p : ℕ) where
   at-port : (k : ℕ) → k < ports t → row t k .owner ≡ p → (served : Served) → CallReply t s p (atPort s k served)
@@ -58,9 +58,9 @@ module _ (t : Tables) (s : State) (p : ℕ) where
   mode-reply : (m : ℕ) → CallReply t s p (setMode t s p m)
   unfolding setMode
   mode-reply m =
-      if-both (CallReply t s p) (ltb normal m) (λ h. refusing invalid-param)
-      (λ h. if-both (CallReply t s p) (eqb m normal && eqb (modeOf s p) normal) (λ g. refusing no-action)
-      (λ g. if-both (CallReply t s p) (eqb m warmStart && eqb (modeOf s p) coldStart) (λ g. refusing invalid-mode)
+      by-test (CallReply t s p) (ltb normal m) (λ h. refusing invalid-param)
+      (λ h. by-test (CallReply t s p) (eqb m normal && eqb (modeOf s p) normal) (λ g. refusing no-action)
+      (λ g. by-test (CallReply t s p) (eqb m warmStart && eqb (modeOf s p) coldStart) (λ g. refusing invalid-mode)
       (λ g. moding nothingTold m)))
 
   module _ (e : Event) (f : Call) where
@@ -68,7 +68,7 @@ module _ (t : Tables) (s : State) (p : ℕ) where
     unfolding create
     create-reply =
         let k = lookUp t p (need (f .code) .mode) e in
-        if-both (CallReply t s p) (ltb k (ports t))
+        by-test (CallReply t s p) (ltb k (ports t))
         (λ h. at-port k (ltb-true _ _ h) (looked-up t p (need (f .code) .mode) e (ltb-true _ _ h)) (made (suc k) (modeOf s p) (row t k) f (port s k)))
         (λ h. refusing invalid-config)
 
@@ -76,21 +76,21 @@ module _ (t : Tables) (s : State) (p : ℕ) where
     unfolding getId
     get-id-reply =
         let k = lookUp t p (need (f .code) .mode) e in
-        if-both (CallReply t s p) (ltb k (ports t) && isCreated (port s k))
+        by-test (CallReply t s p) (ltb k (ports t) && isCreated (port s k))
         (λ h. telling (toldId (suc k))) (λ h. refusing invalid-config)
 
     use-own-reply : (time : ℕ) → CallReply t s p (useOwn t time s p e f)
     unfolding useOwn
     use-own-reply time =
-        if-both (CallReply t s p) (own t s p f)
+        by-test (CallReply t s p) (own t s p f)
         (λ h. at-port (f .id - 1) (own-row-there t p f (own-row t s p f h)) (own-row-owned t p f (own-row t s p f h)) (serve time (row t (f .id - 1)) e f (port s (f .id - 1))))
         (λ h. refusing invalid-param)
 
     pub call-reply : (time : ℕ) → CallReply t s p (service t time s p e f)
     unfolding service
     call-reply time =
-        if-both (CallReply t s p) (eqb (modeOf s p) idle) (λ h. refusing 15)
-        (λ h. if-both (CallReply t s p) (eqb (f .code) create-sampling-port || eqb (f .code) create-queuing-port) (λ g. create-reply)
-        (λ g. if-both (CallReply t s p) (eqb (f .code) get-sampling-port-id || eqb (f .code) get-queuing-port-id) (λ g. get-id-reply)
-        (λ g. if-both (CallReply t s p) (eqb (f .code) set-partition-mode) (λ g. mode-reply (f .choice))
+        by-test (CallReply t s p) (eqb (modeOf s p) idle) (λ h. refusing 15)
+        (λ h. by-test (CallReply t s p) (eqb (f .code) create-sampling-port || eqb (f .code) create-queuing-port) (λ g. create-reply)
+        (λ g. by-test (CallReply t s p) (eqb (f .code) get-sampling-port-id || eqb (f .code) get-queuing-port-id) (λ g. get-id-reply)
+        (λ g. by-test (CallReply t s p) (eqb (f .code) set-partition-mode) (λ g. mode-reply (f .choice))
         (λ g. use-own-reply time))))

@@ -8,7 +8,7 @@ use lib.Dec.{ltb, eqb}
 use lib.ListN.{length, length-set, length-replicate}
 use borrow.Author.Tests.{ltb-true}
 use Rattle.model.proofs.Accepted.{Accepted}
-use Rattle.model.proofs.Branches.{if-both}
+use Rattle.model.proofs.Tests.{by-test}
 use Rattle.model.proofs.Replies.{CallReply, refusing, telling, porting, moding, call-reply}
 use Rattle.model.specs.Words.{if_then_else_}
 use Rattle.model.specs.Tables.{Tables, windows, row, destinations, destinationPort, sourcePort}
@@ -42,7 +42,7 @@ module _ (t : Tables) where
   mode-shaped s p m shape =
       record {
         portsLength =
-            if-both (λ (qs : List Port). length qs ≡ portCount t) (eqb m normal) (λ h. shape .portsLength)
+            by-test (λ (qs : List Port). length qs ≡ portCount t) (eqb m normal) (λ h. shape .portsLength)
             (λ h. length-unmade t p 0 (s .ports) ∙ shape .portsLength);
         modesLength = length-set (s .modes) p m ∙ shape .modesLength;
         inWindow = shape .inWindow;
@@ -72,7 +72,7 @@ module _ (t : Tables) where
         record {
           portsLength = shape .portsLength;
           modesLength = shape .modesLength;
-          inWindow = if-both (λ w. w < windows t) (ltb (suc (s .clock .window)) (windows t)) (ltb-true _ _) (λ h. laws .windowed);
+          inWindow = by-test (λ w. w < windows t) (ltb (suc (s .clock .window)) (windows t)) (ltb-true _ _) (λ h. laws .windowed);
         }
 
     reply-shaped : (s : State) (e : Event) (whose : Turn) → Shaped t s → Shaped t (stateOf s (replyIn t s e whose))
@@ -102,7 +102,7 @@ module _ (t : Tables) where
     ran-shaped : (fault : ℕ) (s : State) (events buffer : List ℕ) → Shaped t s → Shaped t (ranOr fault t s events buffer .state)
     unfolding ranOr
     ran-shaped fault s events buffer shape =
-        if-both (λ (r : Ran). Shaped t (r .state)) (eqb fault 0) (λ h. run-shaped s (eventsOf events) shape) (λ h. shape)
+        by-test (λ (r : Ran). Shaped t (r .state)) (eqb fault 0) (λ h. run-shaped s (eventsOf events) shape) (λ h. shape)
 
     pub reached-shaped : {s : State} → Reached t s → Shaped t s
     unfolding run step

@@ -7,6 +7,7 @@ use mathlib.Core.Bool.{Bool, true, false, _||_, or-true}
 use mathlib.Core.List.{List, [], _∷_}
 use lib.Dec.{eqb}
 use borrow.Author.Tests.{eqb-true, eq-eqb}
+use Rattle.model.proofs.Tests.{neither-left, neither-right}
 use Rattle.model.specs.Words.{if_then_else_, anyIn}
 use Rattle.model.specs.Walk.{isMember, matters, finalSet, mattering}
 
@@ -62,20 +63,12 @@ pub record Conditions {S E A H : Type 0} (m : Machine S E A H) (Good : S → Typ
       → m .holds s (m .doer s e) ≡ m .holds s' (m .doer s e) → m .answer s e ≡ m .answer s' e
 
 -- sets: a doer that does not matter is no member and hands to none
-or-false-left : (a b : Bool) → (a || b) ≡ false → a ≡ false
-or-false-left false b h = refl
-or-false-left true b h = h
-
-or-false-right : (a b : Bool) → (a || b) ≡ false → b ≡ false
-or-false-right false b h = h
-or-false-right true b h = cc
-
 none-passes : (p : ℕ → Bool) (members : List ℕ) (x : ℕ) → anyIn p members ≡ false → isMember x members ≡ true → p x ≡ false
 none-passes p [] x none h = cc
-none-passes p (y ∷ ys) x none h = go (eqb x y) refl (none-passes p ys x (or-false-right (p y) (anyIn p ys) none))
+none-passes p (y ∷ ys) x none h = go (eqb x y) refl (none-passes p ys x (neither-right (p y) (anyIn p ys) none))
   where
     go : (b : Bool) → eqb x y ≡ b → (isMember x ys ≡ true → p x ≡ false) → p x ≡ false
-    go true e later = ap p (eqb-true x y e) ∙ or-false-left (p y) (anyIn p ys) none
+    go true e later = ap p (eqb-true x y e) ∙ neither-left (p y) (anyIn p ys) none
     go false e later = later (rw e at h)
 
 -- what the comparison of two runs gives, for the walk that starts with p and the schedulers
@@ -150,10 +143,10 @@ module _ {S E A H : Type 0} (m : Machine S E A H) where
         }
       where
         no-member : (d : ℕ) → isMember d (setFor m p (m .after s e) es) ≡ true → eqb (m .doer s e) d ≡ false
-        no-member d h = none-passes (eqb (m .doer s e)) (setFor m p (m .after s e) es) d (or-false-left _ _ idle) h
+        no-member d h = none-passes (eqb (m .doer s e)) (setFor m p (m .after s e) es) d (neither-left _ _ idle) h
 
         no-hand : (d : ℕ) → isMember d (setFor m p (m .after s e) es) ≡ true → m .hands (m .doer s e) d ≡ false
-        no-hand d h = none-passes (m .hands (m .doer s e)) (setFor m p (m .after s e) es) d (or-false-right (isMember (m .doer s e) (setFor m p (m .after s e) es)) _ idle) h
+        no-hand d h = none-passes (m .hands (m .doer s e)) (setFor m p (m .after s e) es) d (neither-right (isMember (m .doer s e) (setFor m p (m .after s e) es)) _ idle) h
 
         later : SameRun m p (m .after s e) es s' es'
         later = rest (λ d h. conditions .leaves s e d good (no-member d h) (no-hand d h) ∙ agree d h)

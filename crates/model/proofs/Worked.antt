@@ -1,37 +1,16 @@
--- The worked example of 01, "The runner": its tables, its fifteen events, and the answers that the model gives, computed.
+-- The worked example of 01, "The runner": its tables, its fifteen events, and all 80 bytes of each answer that the model gives, computed.
 -- Assumes nothing.
-use Prim.Native.Nat.{ℕ, _+_}
 use mathlib.Core.Path.{_≡_, refl}
 use mathlib.Core.Bool.{true}
-use mathlib.Core.List.{List, [], _∷_, _++_, map}
-use lib.ListN.{length}
-use Rattle.model.proofs.Computing.{computing}
-use Rattle.model.specs.Words.{byte, word16, word32, bytes16, bytes32, zeros, filled}
+use mathlib.Core.List.{List, [], _∷_, _++_}
+use Prim.Native.Nat.{ℕ}
 use Rattle.model.specs.Tables.{Tables}
 use Rattle.model.specs.Load.{accepts}
 use Rattle.model.specs.State.{loaded}
 use Rattle.model.specs.Events.{Event}
 use Rattle.model.specs.Run.{answers}
-
--- table records, as 01 lays them out
-abbrev pub windowRow : ℕ → ℕ → List ℕ
-windowRow partition size = 1 ∷ partition ∷ bytes16 size ++ zeros 44
-
-abbrev pub portRow : ℕ → ℕ → ℕ → ℕ → ℕ → ℕ → List ℕ → List ℕ
-portRow owner mode direction largest depth refresh name =
-    2 ∷ owner ∷ mode ∷ direction ∷ bytes32 largest ++ (bytes32 depth ++ (bytes32 refresh ++ (filled 30 name ++ zeros 2)))
-
-abbrev ids : List ℕ → List ℕ
-ids [] = []
-ids (id ∷ rest) = bytes16 id ++ ids rest
-
-abbrev pub channelRow : ℕ → List ℕ → List ℕ
-channelRow from to = 3 ∷ length to ∷ bytes16 from ++ (filled 16 (ids to) ++ zeros 28)
-
--- an event record: code, direction or new mode, id or channel, refresh or depth, length or largest, body
-abbrev pub event : ℕ → ℕ → ℕ → ℕ → ℕ → List ℕ → Event
-event code choice id number size body =
-    code ∷ choice ∷ bytes16 id ++ (bytes32 number ++ (bytes32 size ++ (zeros 4 ++ filled 64 body)))
+use Rattle.model.proofs.Computing.{computing}
+use Rattle.model.proofs.Laid.{windowRow, portRow, channelRow, event, answerRow}
 
 abbrev sky : List ℕ
 sky = 83 ∷ 75 ∷ 89 ∷ []
@@ -67,31 +46,30 @@ workedEvents =
     ∷ event 3 0 2 0 0 []
     ∷ []
 
-pub worked-tables-accepted : accepts workedTables ≡ true
-unfolding computing
-worked-tables-accepted = refl
-
--- a line of the listing: doer, code, id, number, length field, byte 12, byte 13, depth, then the message's bytes
-abbrev line : List ℕ → List ℕ
-line a =
-    byte a 1 ∷ byte a 0 ∷ word16 a 2 ∷ word32 a 4 ∷ word32 a 8 ∷ byte a 12 ∷ byte a 13 ∷ word16 a 14 ∷ byte a 16 ∷ byte a 17 ∷ []
-
-pub worked-answers : map line (answers workedTables (loaded workedTables) workedEvents) ≡
-    (0 ∷ 0 ∷ 1 ∷ 0 ∷ 0 ∷ 0 ∷ 0 ∷ 0 ∷ 0 ∷ 0 ∷ [])
-    ∷ (32 ∷ 0 ∷ 0 ∷ 10 ∷ 0 ∷ 0 ∷ 0 ∷ 0 ∷ 0 ∷ 0 ∷ [])
-    ∷ (32 ∷ 0 ∷ 0 ∷ 15 ∷ 0 ∷ 0 ∷ 0 ∷ 0 ∷ 0 ∷ 0 ∷ [])
-    ∷ (1 ∷ 0 ∷ 2 ∷ 0 ∷ 0 ∷ 0 ∷ 0 ∷ 0 ∷ 0 ∷ 0 ∷ [])
-    ∷ (32 ∷ 0 ∷ 0 ∷ 35 ∷ 0 ∷ 0 ∷ 0 ∷ 0 ∷ 0 ∷ 0 ∷ [])
-    ∷ (0 ∷ 0 ∷ 0 ∷ 0 ∷ 0 ∷ 0 ∷ 0 ∷ 0 ∷ 0 ∷ 0 ∷ [])
-    ∷ (32 ∷ 0 ∷ 0 ∷ 45 ∷ 0 ∷ 0 ∷ 0 ∷ 0 ∷ 0 ∷ 0 ∷ [])
-    ∷ (64 ∷ 0 ∷ 0 ∷ 0 ∷ 0 ∷ 0 ∷ 0 ∷ 0 ∷ 0 ∷ 0 ∷ [])
-    ∷ (32 ∷ 0 ∷ 0 ∷ 50 ∷ 0 ∷ 0 ∷ 0 ∷ 0 ∷ 0 ∷ 0 ∷ [])
-    ∷ (1 ∷ 0 ∷ 0 ∷ 0 ∷ 2 ∷ 1 ∷ 0 ∷ 0 ∷ 65 ∷ 66 ∷ [])
-    ∷ (1 ∷ 0 ∷ 0 ∷ 20 ∷ 4 ∷ 1 ∷ 1 ∷ 0 ∷ 0 ∷ 0 ∷ [])
-    ∷ (32 ∷ 0 ∷ 0 ∷ 70 ∷ 0 ∷ 0 ∷ 0 ∷ 0 ∷ 0 ∷ 0 ∷ [])
-    ∷ (32 ∷ 0 ∷ 0 ∷ 80 ∷ 0 ∷ 0 ∷ 0 ∷ 0 ∷ 0 ∷ 0 ∷ [])
-    ∷ (32 ∷ 0 ∷ 0 ∷ 85 ∷ 0 ∷ 0 ∷ 0 ∷ 0 ∷ 0 ∷ 0 ∷ [])
-    ∷ (1 ∷ 0 ∷ 0 ∷ 0 ∷ 2 ∷ 0 ∷ 0 ∷ 0 ∷ 65 ∷ 66 ∷ [])
+-- the listing: doer, code, id, number, length field, byte 12, byte 13, depth, message
+abbrev pub workedAnswers : List (List ℕ)
+workedAnswers =
+    answerRow 0 0 1 0 0 0 0 0 []
+    ∷ answerRow 32 0 0 10 0 0 0 0 []
+    ∷ answerRow 32 0 0 15 0 0 0 0 []
+    ∷ answerRow 1 0 2 0 0 0 0 0 []
+    ∷ answerRow 32 0 0 35 0 0 0 0 []
+    ∷ answerRow 0 0 0 0 0 0 0 0 []
+    ∷ answerRow 32 0 0 45 0 0 0 0 []
+    ∷ answerRow 64 0 0 0 0 0 0 0 []
+    ∷ answerRow 32 0 0 50 0 0 0 0 []
+    ∷ answerRow 1 0 0 0 2 1 0 0 (65 ∷ 66 ∷ [])
+    ∷ answerRow 1 0 0 20 4 1 1 0 []
+    ∷ answerRow 32 0 0 70 0 0 0 0 []
+    ∷ answerRow 32 0 0 80 0 0 0 0 []
+    ∷ answerRow 32 0 0 85 0 0 0 0 []
+    ∷ answerRow 1 0 0 0 2 0 0 0 (65 ∷ 66 ∷ [])
     ∷ []
+
+pub worked-tables : accepts workedTables ≡ true
+unfolding computing
+worked-tables = refl
+
+pub worked-answers : answers workedTables (loaded workedTables) workedEvents ≡ workedAnswers
 unfolding computing
 worked-answers = refl

@@ -12,7 +12,7 @@ use borrow.Author.Tests.{eqb-true}
 use Rattle.model.proofs.Accepted.{Accepted}
 use Rattle.model.proofs.Computing.{computing}
 use Rattle.model.proofs.NonInterference.{SameView, noninterference}
-use Rattle.model.proofs.Worked.{windowRow, portRow, channelRow, event}
+use Rattle.model.proofs.Laid.{windowRow, portRow, channelRow, event}
 use Rattle.model.specs.Words.{zeros}
 use Rattle.model.specs.Tables.{Tables}
 use Rattle.model.specs.Load.{accepts}

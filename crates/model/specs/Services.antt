@@ -175,15 +175,15 @@ schedule t s =
 
 -- 14: a destination that is created gets the message: sampling replaces and sets the arrival time, queuing appends if there is room. Otherwise it is lost
 unfoldable pub arrived : ℕ → Row → Message → Port → Port
-arrived time r m q =
-    if isCreated q
+arrived time r m d =
+    if isCreated d
     then record {
-      created = q .created;
-      arrival = if eqb (r .mode) sampling then time else q .arrival;
-      validity = q .validity;
-      queue = stored r (q .queue) m;
+      created = d .created;
+      arrival = if eqb (r .mode) sampling then time else d .arrival;
+      validity = d .validity;
+      queue = stored r (d .queue) m;
     }
-    else q
+    else d
 
 -- the message handed to the n destinations of channel c from number j on; each has its arrival time
 abbrev pub delivered : Tables → (ℕ → ℕ) → ℕ → Message → ℕ → ℕ → State → State
