@@ -1,4 +1,4 @@
--- The shape of a state: a port for each row, sixteen modes, a window of the tables. The step keeps it, and reached states have it.
+-- The shape of a state: a port for each row, sixteen modes, a window of the tables. Any event keeps it, and reached states have it.
 -- Assumes the laws of accepted tables.
 use Prim.Native.Nat.{ℕ, zero, suc, _<_}
 use mathlib.Core.Path.{_≡_, refl, ap, _∙_}
@@ -9,6 +9,7 @@ use lib.ListN.{length, length-set, length-replicate}
 use borrow.Author.Tests.{ltb-true}
 use Rattle.model.proofs.Accepted.{Accepted}
 use Rattle.model.proofs.Tests.{by-test}
+use Rattle.model.proofs.Reached.{reached-ranged}
 use Rattle.model.proofs.Replies.{CallReply, refusing, telling, porting, moding, call-reply}
 use Rattle.model.specs.Words.{if_then_else_}
 use Rattle.model.specs.Tables.{Tables, windows, row, destinations, destinationPort, sourcePort}
@@ -17,7 +18,7 @@ use Rattle.model.specs.State.{Message, Port, Clock, State, fresh, partit
 use Rattle.model.specs.Events.{Event}
 use Rattle.model.specs.Services.{Reply, refuse, done, unmade, withMode, schedule, arrived, delivered, transmitOldest, transmit}
 use Rattle.model.specs.Step.{Turn, noTurn, clockTurn, callTurn, moveTurn, turn, replyIn, reply, stateOf, after}
-use Rattle.model.specs.Run.{afterAll, eventsOf, Ran, ranOr, run, step, Reached, byLoad, byStep, byRun}
+use Rattle.model.specs.Run.{Reached}
 
 pub record Shaped (t : Tables) (s : State) : Type 0 where
   pub portsLength : length (s .ports) ≡ portCount t
@@ -86,26 +87,8 @@ module _ (t : Tables) where
     unfolding after reply
     after-shaped s e shape = reply-shaped s e (turn t s e) shape
 
-    pub run-shaped : (s : State) (es : List Event) → Shaped t s → Shaped t (afterAll t s es)
-    run-shaped s [] shape = shape
-    run-shaped s (e ∷ es) shape = run-shaped (after t s e) es (after-shaped s e shape)
-
-    loaded-shaped : Shaped t (loaded t)
-    unfolding loaded
-    loaded-shaped =
-        record {
-          portsLength = length-replicate (portCount t) fresh;
-          modesLength = refl;
-          inWindow = laws .windowed;
-        }
-
-    ran-shaped : (fault : ℕ) (s : State) (events buffer : List ℕ) → Shaped t s → Shaped t (ranOr fault t s events buffer .state)
-    unfolding ranOr
-    ran-shaped fault s events buffer shape =
-        by-test (λ (r : Ran). Shaped t (r .state)) (eqb fault 0) (λ h. run-shaped s (eventsOf events) shape) (λ h. shape)
-
-    pub reached-shaped : {s : State} → Reached t s → Shaped t s
-    unfolding run step
-    reached-shaped (byLoad yea) = loaded-shaped
-    reached-shaped (byStep {s = s} event buffer ran before) = ran-shaped _ s event buffer (reached-shaped before)
-    reached-shaped (byRun {s = s} events buffer ran before) = ran-shaped _ s events buffer (reached-shaped before)
+-- a reached state is in range, and so has this shape
+pub reached-shaped : (t : Tables) (s : State) → Reached t s → Shaped t s
+reached-shaped t s reached =
+    let ranged = reached-ranged t s reached in
+    record { portsLength = ranged .whole; modesLength = ranged .sixteen; inWindow = ranged .inWindow }

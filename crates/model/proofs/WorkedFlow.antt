@@ -1,6 +1,6 @@
 -- A worked pair for demand 3, computed. Partition 0 sends over channel 0 to partition 1, which sends on over channel 1 to partition 2.
 -- Partition 2's view is compared. Partition 3 acts in the second list only, and the second state has its mode, its port and a message of its.
--- Assumes the laws of accepted tables, where the theorem is applied.
+-- Assumes nothing.
 use Prim.Native.Nat.{ℕ, suc}
 use native.Mathlib.Omega.{arith}
 use mathlib.Core.Path.{_≡_, refl, sym, ap, subst, _∙_}
@@ -9,7 +9,6 @@ use mathlib.Core.List.{List, [], _∷_, _++_}
 use lib.Dec.{eqb, lit<}
 use lib.ListN.{set, replicate, take, drop}
 use borrow.Author.Tests.{eqb-true}
-use Rattle.model.proofs.Accepted.{Accepted}
 use Rattle.model.proofs.Computing.{computing}
 use Rattle.model.proofs.NonInterference.{SameView, noninterference}
 use Rattle.model.proofs.Laid.{windowRow, portRow, channelRow, event}
@@ -208,7 +207,7 @@ unfolding computing
 without-send = refl
 
 -- the theorem, applied
-pub flow-same : Accepted flowTables → SameView flowTables 2 first onwards second more
-flow-same laws =
-    noninterference flowTables laws 2 (lit< tt) first second first-reached second-reached onwards more members-agree
+pub flow-same : SameView flowTables 2 first onwards second more
+flow-same =
+    noninterference flowTables 2 (lit< tt) first first-reached onwards second second-reached members-agree more
     (first-mattering ∙ sym second-mattering)
