@@ -1,7 +1,6 @@
 -- The unwinding conditions at a partition's call.
 -- Assumes the laws of accepted tables.
-use Prim.Native.Nat.{ℕ, _+_, _<_}
-use native.Mathlib.Omega.{arith}
+use Prim.Native.Nat.{ℕ, _<_}
 use mathlib.Core.Path.{_≡_, refl, sym, ap, _∙_}
 use mathlib.Core.Bool.{Bool, true, false, false≢true}
 use mathlib.Core.Logic.{_≢_}
@@ -14,11 +13,11 @@ use Rattle.model.proofs.Hands.{not-source-owner}
 use Rattle.model.proofs.HeldPorts.{Alike, same-part, same-queue, same-holding}
 use Rattle.model.proofs.Replies.{call-reply}
 use Rattle.model.proofs.Shaped.{Shaped, call-shaped}
-use Rattle.model.specs.Tables.{Tables, channels, row, sourcePort}
+use Rattle.model.specs.Tables.{Tables, row, sourcePort}
 use Rattle.model.specs.State.{State, port}
 use Rattle.model.specs.Events.{Event, Call}
-use Rattle.model.specs.Services.{Reply, service}
-use Rattle.model.specs.Step.{scheduler, firstChannel, answerOf, stateOf}
+use Rattle.model.specs.Services.{service}
+use Rattle.model.specs.Step.{answerOf, stateOf}
 use Rattle.model.specs.Flow.{holds, hands}
 
 -- a partition's agreement, with the queues of some ports besides

@@ -2,27 +2,23 @@
 -- With `also k`, the queue of port k agrees too, before and after: that is what a channel with its source at k holds.
 -- Assumes the laws of accepted tables.
 use Prim.Native.Nat.{ℕ, suc, _-_, _<_}
-use mathlib.Core.Path.{_≡_, refl, sym, ap, ap₂, _∙_}
-use mathlib.Core.Bool.{Bool, true, false, _&&_, _||_}
-use mathlib.Core.List.{List, [], _∷_}
-use mathlib.Core.Logic.{_⊎_}
+use mathlib.Core.Path.{_≡_, refl, sym, ap, _∙_}
+use mathlib.Core.Bool.{Bool, _&&_, _||_}
 use lib.Dec.{ltb, eqb}
-use lib.ListN.{length}
-use borrow.Author.Tests.{ltb-true, eqb-true}
+use borrow.Author.Tests.{ltb-true}
 use Rattle.model.proofs.Accepted.{Accepted}
 use Rattle.model.proofs.Branches.{if-alike, and-same}
 use Rattle.model.proofs.Matching.{Matching, SameServed, bothRefuse, bothServe, created-matching, made-matching, serve-matching}
 use Rattle.model.proofs.PortAfter.{ports-related, mode-ports-related, mode-set}
 use Rattle.model.proofs.Replies.{looked-up, ownRow, own-row, own-row-there, own-row-owned}
 use Rattle.model.proofs.Shaped.{Shaped}
-use Rattle.model.specs.Words.{if_then_else_, between}
-use Rattle.model.specs.Tables.{Tables, row, source, destination}
+use Rattle.model.specs.Tables.{Tables, row, source}
 use Rattle.model.specs.Tables.{ports as portCount}
-use Rattle.model.specs.State.{Port, State, idle, coldStart, warmStart, normal, modeOf, port, withPort, isCreated}
+use Rattle.model.specs.State.{State, idle, coldStart, warmStart, normal, modeOf, port, isCreated}
 use Rattle.model.specs.Events.{Event, Call, need}
 use Rattle.model.specs.Events.{create-sampling-port, get-sampling-port-id, create-queuing-port, get-queuing-port-id, set-partition-mode}
 use Rattle.model.specs.Answers.{Told, nothingTold, toldId, no-action, invalid-param, invalid-config, invalid-mode}
-use Rattle.model.specs.Services.{Reply, refuse, done, Served, atPort, lookUp, made, create, getId, own, serve, useOwn, withMode, setMode, service}
+use Rattle.model.specs.Services.{Reply, refuse, done, Served, atPort, lookUp, made, create, getId, own, useOwn, setMode, service}
 use Rattle.model.specs.Step.{answerOf, stateOf}
 
 -- two replies: the same refusal, or the same told and related states left

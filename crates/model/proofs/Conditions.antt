@@ -1,22 +1,21 @@
 -- The unwinding conditions of the model's step, by whose turn it is.
 -- Assumes the laws of accepted tables, of states with the shape that reached states have.
 use Prim.Native.Nat.{ℕ, _+_, _<_}
-use mathlib.Core.Path.{_≡_, refl, sym, ap, _∙_}
-use mathlib.Core.Bool.{Bool, true, false, true≢false}
-use mathlib.Core.List.{List, [], _∷_}
+use mathlib.Core.Path.{_≡_, refl, ap, _∙_}
+use mathlib.Core.Bool.{false, true≢false}
+use mathlib.Core.List.{List}
 use mathlib.Core.Logic.{_⊎_, inl, inr}
 use lib.Dec.{ltb, eqb}
 use borrow.Author.Tests.{ltb-true, eqb-false}
 use Rattle.model.proofs.Accepted.{Accepted}
 use Rattle.model.proofs.Tests.{by-test}
 use Rattle.model.proofs.CallConditions.{call-leaves, call-tells, call-carries}
-use Rattle.model.proofs.HeldPorts.{Alike, same-clock, same-part, same-queue, same-holding}
+use Rattle.model.proofs.HeldPorts.{same-clock, same-part, same-queue, same-holding}
 use Rattle.model.proofs.MoveConditions.{move-leaves, move-tells, move-carries}
 use Rattle.model.proofs.Shaped.{Shaped, clock-shaped, after-shaped}
 use Rattle.model.proofs.Unwinding.{Machine, Agree, Conditions}
-use Rattle.model.specs.Words.{if_then_else_}
-use Rattle.model.specs.Tables.{Tables, mover, windowPartition, channels, sourcePort}
-use Rattle.model.specs.State.{Clock, State, port, tick}
+use Rattle.model.specs.Tables.{Tables, mover, windowPartition, channels}
+use Rattle.model.specs.State.{State, tick}
 use Rattle.model.specs.Events.{Event, Asked, clockStep, call, move, unknown, decode}
 use Rattle.model.specs.Answers.{toldNumber}
 use Rattle.model.specs.Services.{done, service, schedule, transmit}

@@ -1,23 +1,22 @@
 -- What a doer holds, taken apart and put together: agreement on `holds` is agreement on the clock, at each port of a partition, or on a queue.
 -- Assumes nothing.
-use Prim.Native.Nat.{ℕ, zero, suc, _+_, _-_, _≤_, _<_}
+use Prim.Native.Nat.{ℕ, zero, suc, _+_, _-_, _<_}
 use native.Mathlib.Omega.{arith}
 use mathlib.Core.Path.{_≡_, refl, sym, ap, ap₂, _∙_}
-use mathlib.Core.Bool.{Bool, true, false, _&&_}
+use mathlib.Core.Bool.{Bool, true, false}
 use mathlib.Core.List.{List, [], _∷_}
 use mathlib.Core.Logic.{_≢_}
-use lib.Dec.{leb, ltb, eqb}
+use lib.Dec.{leb, eqb}
 use lib.ListN.{length, getD}
 use lib.Seq.{ext-getD}
 use borrow.Author.Tests.{ltb-true, leb-true, eqb-true, lt-ltb, le-ltb, le-leb, eq-eqb, eqb-false, ne-eqb}
 use Rattle.model.proofs.Branches.{if-alike}
 use Rattle.model.proofs.Tests.{both-left, both-right, by-test}
 use Rattle.model.proofs.Shaped.{Shaped}
-use Rattle.model.specs.Words.{if_then_else_}
 use Rattle.model.specs.Tables.{Tables, channels, Row, row, source, destination, sourcePort}
-use Rattle.model.specs.State.{Message, Clock, Port, State, fresh, partitions, modeOf, port, withQueue}
+use Rattle.model.specs.State.{Message, Port, State, fresh, partitions, modeOf, port, withQueue}
 use Rattle.model.specs.Step.{scheduler, firstChannel}
-use Rattle.model.specs.Flow.{Holding, clockHeld, queueHeld, partHeld, nothingHeld, heldPort, heldPorts, isPartition, isChannel, holds}
+use Rattle.model.specs.Flow.{clockHeld, queueHeld, partHeld, heldPort, heldPorts, isPartition, isChannel, holds}
 
 -- a partition finds two states alike: the same mode, and at each port the same of what it holds there
 pub record Alike (t : Tables) (p : ℕ) (s s' : State) : Type 0 where

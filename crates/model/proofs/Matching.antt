@@ -5,20 +5,18 @@
 use Prim.Native.Nat.{ℕ}
 use mathlib.Core.Path.{_≡_, refl, sym, ap, _∙_}
 use mathlib.Core.Bool.{Bool, true, false, _||_, not}
-use mathlib.Core.List.{List, [], _∷_}
+use mathlib.Core.List.{[]}
 use mathlib.Core.Logic.{_⊎_, inl, inr}
 use lib.Dec.{ltb, eqb}
-use lib.ListN.{length}
-use borrow.Author.Tests.{eqb-true, eq-eqb}
+use borrow.Author.Tests.{eqb-true}
 use Rattle.model.proofs.Branches.{if-alike}
 use Rattle.model.proofs.HeldPorts.{held-whole, held-marks}
-use Rattle.model.specs.Words.{if_then_else_}
-use Rattle.model.specs.Tables.{Row, sampling, source, destination}
-use Rattle.model.specs.State.{Message, Port, fresh, normal, withQueue, isCreated}
+use Rattle.model.specs.Tables.{Row, source, destination}
+use Rattle.model.specs.State.{Port, normal, isCreated}
 use Rattle.model.specs.Events.{Event, Call, need, messageOf}
 use Rattle.model.specs.Events.{write-sampling-message, read-sampling-message, send-queuing-message, receive-queuing-message, clear-queuing-port}
 use Rattle.model.specs.Answers.{Told, nothingTold, toldId, no-action, invalid-param, invalid-config, invalid-mode}
-use Rattle.model.specs.Services.{Served, refuses, serves, directed, likeRow, made, stored, put, readOldest, takeOldest, get, status, cleared, serve}
+use Rattle.model.specs.Services.{Served, refuses, serves, directed, likeRow, made, stored, put, get, status, cleared, serve}
 use Rattle.model.specs.Flow.{heldPort}
 
 -- two ports of one row that partition p cannot tell apart

@@ -7,7 +7,7 @@ use mathlib.Core.Bool.{Bool, true, false}
 use mathlib.Core.List.{List, [], _∷_}
 use mathlib.Core.Logic.{_≢_}
 use lib.Dec.{eqb}
-use lib.ListN.{length, getD}
+use lib.ListN.{getD}
 use borrow.Author.Tests.{eqb-true, eqb-false}
 use Rattle.model.proofs.Accepted.{Accepted}
 use Rattle.model.proofs.Ends.{DestinationEnd}
@@ -15,7 +15,6 @@ use Rattle.model.proofs.HeldPorts.{Alike, held-nothing, held-whole, hel
 use Rattle.model.proofs.PortAfter.{port-other, port-same, ports-related}
 use Rattle.model.proofs.Shaped.{Shaped, port-shaped}
 use Rattle.model.specs.Tables.{Tables, channels, row, Row, source, destination, sourcePort, destinations, destinationPort}
-use Rattle.model.specs.Tables.{ports as portCount}
 use Rattle.model.specs.State.{Message, Port, State, modeOf, port, withPort, withQueue}
 use Rattle.model.specs.Services.{arrived, delivered, transmitOldest}
 use Rattle.model.specs.Step.{answerOf, stateOf}

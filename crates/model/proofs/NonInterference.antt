@@ -2,8 +2,8 @@
 -- The walk, the doers and what each holds are defined in specs/Walk and specs/Flow, the step in specs/Step, reached states in specs/Run.
 -- Assumes nothing: reached states have accepted tables.
 use Prim.Native.Nat.{ℕ, _<_}
-use mathlib.Core.Path.{_≡_, refl, ap, ap₂, sym, _∙_}
-use mathlib.Core.Bool.{Bool, true, false}
+use mathlib.Core.Path.{_≡_, refl, ap, sym, _∙_}
+use mathlib.Core.Bool.{true}
 use mathlib.Core.List.{List, [], _∷_}
 use lib.Dec.{eqb}
 use borrow.Author.Tests.{eq-eqb}

@@ -2,14 +2,13 @@
 -- Assumes nothing.
 use Prim.Native.Nat.{ℕ, suc, _-_, _≤_, _<_}
 use native.Mathlib.Omega.{arith}
-use mathlib.Core.Path.{_≡_, refl, sym, ap}
-use mathlib.Core.Bool.{Bool, true, false, _&&_, _||_, not}
-use mathlib.Core.List.{List, [], _∷_}
+use mathlib.Core.Path.{_≡_}
+use mathlib.Core.Bool.{Bool, true, _&&_, _||_}
 use lib.Dec.{eqb, ltb, leb}
 use borrow.Author.Tests.{ltb-true, leb-true, eqb-true}
 use Rattle.model.proofs.Bounded.{first-is}
 use Rattle.model.proofs.Tests.{both-left, both-right, by-test}
-use Rattle.model.specs.Words.{if_then_else_, between}
+use Rattle.model.specs.Words.{between}
 use Rattle.model.specs.Tables.{Tables, ports, row}
 use Rattle.model.specs.State.{State, Port, idle, normal, coldStart, warmStart, modeOf, withPort, port, isCreated}
 use Rattle.model.specs.Events.{Event, Call, need}

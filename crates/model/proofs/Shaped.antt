@@ -2,21 +2,19 @@
 -- Assumes the laws of accepted tables.
 use Prim.Native.Nat.{ℕ, zero, suc, _<_}
 use mathlib.Core.Path.{_≡_, refl, ap, _∙_}
-use mathlib.Core.Bool.{Bool, true, false}
 use mathlib.Core.List.{List, [], _∷_}
 use lib.Dec.{ltb, eqb}
-use lib.ListN.{length, length-set, length-replicate}
+use lib.ListN.{length, length-set}
 use borrow.Author.Tests.{ltb-true}
 use Rattle.model.proofs.Accepted.{Accepted}
 use Rattle.model.proofs.Tests.{by-test}
 use Rattle.model.proofs.Reached.{reached-ranged}
 use Rattle.model.proofs.Replies.{CallReply, refusing, telling, porting, moding, call-reply}
-use Rattle.model.specs.Words.{if_then_else_}
 use Rattle.model.specs.Tables.{Tables, windows, row, destinations, destinationPort, sourcePort}
 use Rattle.model.specs.Tables.{ports as portCount}
-use Rattle.model.specs.State.{Message, Port, Clock, State, fresh, partitions, normal, loaded, port, withPort, withQueue, tick}
+use Rattle.model.specs.State.{Message, Port, State, partitions, normal, port, withPort, withQueue, tick}
 use Rattle.model.specs.Events.{Event}
-use Rattle.model.specs.Services.{Reply, refuse, done, unmade, withMode, schedule, arrived, delivered, transmitOldest, transmit}
+use Rattle.model.specs.Services.{Reply, unmade, withMode, schedule, arrived, delivered, transmitOldest, transmit}
 use Rattle.model.specs.Step.{Turn, noTurn, clockTurn, callTurn, moveTurn, turn, replyIn, reply, stateOf, after}
 use Rattle.model.specs.Run.{Reached}
 
