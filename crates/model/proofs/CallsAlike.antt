@@ -12,7 +12,7 @@ use Rattle.model.proofs.Matching.{Matching, SameServed, bothRefuse, bot
 use Rattle.model.proofs.PortAfter.{ports-related, mode-ports-related, mode-set}
 use Rattle.model.proofs.Replies.{looked-up, ownRow, own-row, own-row-there, own-row-owned}
 use Rattle.model.proofs.Shaped.{Shaped}
-use Rattle.model.specs.Tables.{Tables, row, source}
+use Rattle.model.specs.Tables.{Tables, row}
 use Rattle.model.specs.Tables.{ports as portCount}
 use Rattle.model.specs.State.{State, idle, coldStart, warmStart, normal, modeOf, port, isCreated}
 use Rattle.model.specs.Events.{Event, Call, need}
@@ -40,10 +40,13 @@ pub record CallerAlike (t : Tables) (p : ℕ) (also : ℕ → Bool) (s s' : Stat
   pub at : (k : ℕ) → Matching (also k) p (row t k) (port s k) (port s' k)
 
 module _ (t : Tables) (laws : Accepted t) (p : ℕ) (few : p < 16) (also : ℕ → Bool) where
+  abbrev Same : Reply → Reply → Type 0
+  Same = SameReply (CallerAlike t p also)
+
   module _ (s s' : State) (shape : Shaped t s) (shape' : Shaped t s') (same : CallerAlike t p also s s') where
     at-port-same :
         (k : ℕ) → k < portCount t → (served served' : Served) → SameServed (Matching (also k) p (row t k)) served served'
-        → SameReply (CallerAlike t p also) (atPort s k served) (atPort s' k served')
+        → Same (atPort s k served) (atPort s' k served')
     at-port-same k there served served' (bothRefuse code) = refuseBoth code
     at-port-same k there served served' (bothServe v q q' new) =
         doneBoth v _ _
@@ -56,11 +59,11 @@ module _ (t : Tables) (laws : Accepted t) (p : ℕ) (few : p < 16) (also : ℕ �
     created-same : (k : ℕ) → k < portCount t → row t k .owner ≡ p → isCreated (port s k) ≡ isCreated (port s' k)
     created-same k there owned = created-matching (also k) p (row t k) owned (port s k) (port s' k) (same .at k) (laws .rows k there .directed)
 
-    create-same : (e : Event) (f : Call) → SameReply (CallerAlike t p also) (create t s p e f) (create t s' p e f)
+    create-same : (e : Event) (f : Call) → Same (create t s p e f) (create t s' p e f)
     unfolding create
     create-same e f =
         let k = lookUp t p (need (f .code) .mode) e in
-        if-alike (SameReply (CallerAlike t p also)) (ltb k (portCount t)) (ltb k (portCount t)) refl
+        if-alike Same (ltb k (portCount t)) (ltb k (portCount t)) refl
         (λ h. let there = ltb-true k (portCount t) h in
         at-port-same k there (made (suc k) (modeOf s p) (row t k) f (port s k)) (made (suc k) (modeOf s' p) (row t k) f (port s' k))
         (rw (same .mode)
@@ -68,11 +71,11 @@ module _ (t : Tables) (laws : Accepted t) (p : ℕ) (few : p < 16) (also : ℕ �
         (laws .rows k there .directed) (suc k) (modeOf s' p) f)))
         (λ h. refuseBoth invalid-config)
 
-    get-id-same : (e : Event) (f : Call) → SameReply (CallerAlike t p also) (getId t s p e f) (getId t s' p e f)
+    get-id-same : (e : Event) (f : Call) → Same (getId t s p e f) (getId t s' p e f)
     unfolding getId
     get-id-same e f =
         let k = lookUp t p (need (f .code) .mode) e in
-        if-alike (SameReply (CallerAlike t p also)) (ltb k (portCount t) && isCreated (port s k)) (ltb k (portCount t) && isCreated (port s' k))
+        if-alike Same (ltb k (portCount t) && isCreated (port s k)) (ltb k (portCount t) && isCreated (port s' k))
         (and-same (ltb k (portCount t)) (isCreated (port s k)) (isCreated (port s' k))
         (λ h. created-same k (ltb-true _ _ h) (looked-up t p (need (f .code) .mode) e (ltb-true _ _ h))))
         (λ h. doneBoth (toldId (suc k)) s s' same) (λ h. refuseBoth invalid-config)
@@ -83,10 +86,10 @@ module _ (t : Tables) (laws : Accepted t) (p : ℕ) (few : p < 16) (also : ℕ �
         and-same (ownRow t p f) (isCreated (port s (f .id - 1))) (isCreated (port s' (f .id - 1)))
         (λ h. created-same (f .id - 1) (own-row-there t p f h) (own-row-owned t p f h))
 
-    use-own-same : (time : ℕ) (e : Event) (f : Call) → SameReply (CallerAlike t p also) (useOwn t time s p e f) (useOwn t time s' p e f)
+    use-own-same : (time : ℕ) (e : Event) (f : Call) → Same (useOwn t time s p e f) (useOwn t time s' p e f)
     unfolding useOwn
     use-own-same time e f =
-        if-alike (SameReply (CallerAlike t p also)) (own t s p f) (own t s' p f) (own-same f)
+        if-alike Same (own t s p f) (own t s' p f) (own-same f)
         (λ h. let k = f .id - 1 in
         let there = own-row-there t p f (own-row t s p f h) in
         at-port-same k there _ _
@@ -94,13 +97,13 @@ module _ (t : Tables) (laws : Accepted t) (p : ℕ) (few : p < 16) (also : ℕ �
         (laws .rows k there .directed) time e f))
         (λ h. refuseBoth invalid-param)
 
-    set-mode-same : (m : ℕ) → SameReply (CallerAlike t p also) (setMode t s p m) (setMode t s' p m)
+    set-mode-same : (m : ℕ) → Same (setMode t s p m) (setMode t s' p m)
     unfolding setMode
     set-mode-same m =
-        if-alike (SameReply (CallerAlike t p also)) (ltb normal m) (ltb normal m) refl (λ h. refuseBoth invalid-param)
-        (λ h. if-alike (SameReply (CallerAlike t p also)) (eqb m normal && eqb (modeOf s p) normal) (eqb m normal && eqb (modeOf s' p) normal)
+        if-alike Same (ltb normal m) (ltb normal m) refl (λ h. refuseBoth invalid-param)
+        (λ h. if-alike Same (eqb m normal && eqb (modeOf s p) normal) (eqb m normal && eqb (modeOf s' p) normal)
         (ap (λ n. eqb m normal && eqb n normal) (same .mode)) (λ g. refuseBoth no-action)
-        (λ g. if-alike (SameReply (CallerAlike t p also)) (eqb m warmStart && eqb (modeOf s p) coldStart) (eqb m warmStart && eqb (modeOf s' p) coldStart)
+        (λ g. if-alike Same (eqb m warmStart && eqb (modeOf s p) coldStart) (eqb m warmStart && eqb (modeOf s' p) coldStart)
         (ap (λ n. eqb m warmStart && eqb n coldStart) (same .mode)) (λ g. refuseBoth invalid-mode)
         (λ g. doneBoth nothingTold _ _
         (record {
@@ -111,10 +114,10 @@ module _ (t : Tables) (laws : Accepted t) (p : ℕ) (few : p < 16) (also : ℕ �
     pub call-same : (time : ℕ) (e : Event) (f : Call) → SameReply (CallerAlike t p also) (service t time s p e f) (service t time s' p e f)
     unfolding service
     call-same time e f =
-        if-alike (SameReply (CallerAlike t p also)) (eqb (modeOf s p) idle) (eqb (modeOf s' p) idle) (ap (λ n. eqb n idle) (same .mode)) (λ h. refuseBoth 15)
-        (λ h. if-alike (SameReply (CallerAlike t p also)) creates creates refl (λ g. create-same e f)
-        (λ g. if-alike (SameReply (CallerAlike t p also)) asks asks refl (λ g. get-id-same e f)
-        (λ g. if-alike (SameReply (CallerAlike t p also)) sets sets refl (λ g. set-mode-same (f .choice))
+        if-alike Same (eqb (modeOf s p) idle) (eqb (modeOf s' p) idle) (ap (λ n. eqb n idle) (same .mode)) (λ h. refuseBoth 15)
+        (λ h. if-alike Same creates creates refl (λ g. create-same e f)
+        (λ g. if-alike Same asks asks refl (λ g. get-id-same e f)
+        (λ g. if-alike Same sets sets refl (λ g. set-mode-same (f .choice))
         (λ g. use-own-same time e f))))
       where
         creates : Bool

@@ -19,7 +19,8 @@ use Rattle.model.specs.State.{State, tick}
 use Rattle.model.specs.Events.{Event, Asked, clockStep, call, move, unknown, decode}
 use Rattle.model.specs.Answers.{toldNumber}
 use Rattle.model.specs.Services.{done, service, schedule, transmit}
-use Rattle.model.specs.Step.{Turn, noTurn, clockTurn, callTurn, moveTurn, turnIn, turn, scheduler, firstChannel, doerIn, doer, replyIn, reply, answerOf, stateOf, answer, after}
+use Rattle.model.specs.Step.{Turn, noTurn, clockTurn, callTurn, moveTurn, turnIn, turn, scheduler, firstChannel, doerIn, doer}
+use Rattle.model.specs.Step.{replyIn, reply, answerOf, stateOf, answer, after}
 use Rattle.model.specs.Flow.{Holding, holds, hands, schedulers}
 
 -- the model as a machine

@@ -28,7 +28,8 @@ module _ (t : Tables) (c : ℕ) (there : c < channels t) where
   pub not-source-owner : (p : ℕ) → hands t p (firstChannel + c) ≡ false → row t (sourcePort t c) .owner ≢ p
   unfolding hands fromOwner toOwner
   not-source-owner p none =
-      let half = neither-right (eqb p scheduler) (fromOwner t p (firstChannel + c)) (neither-left (eqb p scheduler || fromOwner t p (firstChannel + c)) (toOwner t p (firstChannel + c)) none) in
+      let d = firstChannel + c in
+      let half = neither-right (eqb p scheduler) (fromOwner t p d) (neither-left (eqb p scheduler || fromOwner t p d) (toOwner t p d) none) in
       eqb-false _ _ (rw (is-channel t c there, channel-number t c) at half)
 
   pub no-destination-owner :

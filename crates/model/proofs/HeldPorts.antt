@@ -41,7 +41,9 @@ module _ (p : ℕ) (r : Row) (owned : r .owner ≡ p) where
   held-marks from q = rw (owned, from, eq-eqb p p refl)
 
 -- the queue of a source port is not its owner's
-pub held-unqueued : (p : ℕ) (r : Row) → r .direction ≡ source → (q : Port) (messages : List Message) → heldPort p r (withQueue q messages) ≡ heldPort p r q
+pub held-unqueued :
+    (p : ℕ) (r : Row) → r .direction ≡ source → (q : Port) (messages : List Message)
+    → heldPort p r (withQueue q messages) ≡ heldPort p r q
 held-unqueued p r from q messages = go (eqb (r .owner) p) refl
   where
     go : (b : Bool) → eqb (r .owner) p ≡ b → heldPort p r (withQueue q messages) ≡ heldPort p r q

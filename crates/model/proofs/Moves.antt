@@ -78,7 +78,9 @@ module _ (t : Tables) (laws : Accepted t) (timeAt : ℕ → ℕ) (c : ℕ) (here
   -- no source is a destination
   source-apart : (b : ℕ) → b < channels t → (j : ℕ) → j < destinations t c → sourcePort t b ≢ destinationPort t c j
   source-apart b there j few same =
-      let e : _≡_ {A = ℕ} source destination = sym (laws .sources b there .isSource) ∙ ap (λ k. row t k .direction) same ∙ laws .destinationEnds c here j few .isDestination in
+      let from = laws .sources b there .isSource in
+      let to = laws .destinationEnds c here j few .isDestination in
+      let e : _≡_ {A = ℕ} source destination = sym from ∙ ap (λ k. row t k .direction) same ∙ to in
       omega arith
 
   -- the state without the oldest message
@@ -96,9 +98,10 @@ module _ (t : Tables) (laws : Accepted t) (timeAt : ℕ → ℕ) (c : ℕ) (here
     where
       go : (b : Bool) → eqb k (sourcePort t c) ≡ b → heldPort d (row t k) (port (taken s rest) k) ≡ heldPort d (row t k) (port s k)
       go true e =
+          let j = sourcePort t c in
           rw (eqb-true k (sourcePort t c) e)
-          (ap (heldPort d (row t (sourcePort t c))) (port-same s (sourcePort t c) (withQueue (port s (sourcePort t c)) rest) (rw (shape .portsLength) (laws .sources c here .there)))
-          ∙ held-unqueued d (row t (sourcePort t c)) (laws .sources c here .isSource) (port s (sourcePort t c)) rest)
+          (ap (heldPort d (row t j)) (port-same s j (withQueue (port s j) rest) (rw (shape .portsLength) (laws .sources c here .there)))
+          ∙ held-unqueued d (row t j) (laws .sources c here .isSource) (port s j) rest)
       go false e = ap (heldPort d (row t k)) (port-other s (sourcePort t c) _ k (eqb-false _ _ e))
 
   module _ (s : State) where

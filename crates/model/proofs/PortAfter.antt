@@ -51,7 +51,10 @@ module _ (t : Tables) (p m : ℕ) where
   unfolding withMode
   mode-port s k = go (eqb m normal)
     where
-      go : (b : Bool) → getD (if b then s .ports else unmade t p 0 (s .ports)) k fresh ≡ (if b then port s k else if eqb (row t k .owner) p then fresh else port s k)
+      go :
+          (b : Bool)
+          → getD (if b then s .ports else unmade t p 0 (s .ports)) k fresh
+          ≡ (if b then port s k else if eqb (row t k .owner) p then fresh else port s k)
       go true = refl
       go false = let e : 0 + k ≡ k = omega arith in rw e at (unmade-at t p 0 (s .ports) k)
 

@@ -1,4 +1,4 @@
--- Replies compared: what a partition's call may do to a state, and when two replies say the same.
+-- What a partition's call may do to a state: refuse, tell, replace one port of the caller's, or set the caller's mode.
 -- Assumes nothing.
 use Prim.Native.Nat.{ℕ, suc, _-_, _≤_, _<_}
 use native.Mathlib.Omega.{arith}
@@ -14,9 +14,10 @@ use Rattle.model.specs.State.{State, Port, idle, normal, coldStart, warm
 use Rattle.model.specs.Events.{Event, Call, need}
 use Rattle.model.specs.Events.{create-sampling-port, get-sampling-port-id, create-queuing-port, get-queuing-port-id, set-partition-mode}
 use Rattle.model.specs.Answers.{Told, nothingTold, toldId, invalid-param, invalid-config, invalid-mode, no-action}
-use Rattle.model.specs.Services.{Reply, refuse, done, Served, refuses, serves, atPort, isNamed, lookUp, made, create, getId, own, serve, useOwn, withMode, setMode, service}
+use Rattle.model.specs.Services.{Reply, refuse, done, Served, refuses, serves, atPort, isNamed, lookUp}
+use Rattle.model.specs.Services.{made, create, getId, own, serve, useOwn, withMode, setMode, service}
 
--- a call of partition p refuses, or tells something and leaves the state, replaces one port of the caller, or sets the caller's mode
+-- the replies to a call of partition p in state s
 pub data CallReply (t : Tables) (s : State) (p : ℕ) : Reply → Type 0 where
   refusing : (code : ℕ) → CallReply t s p (refuse code)
   telling : (v : Told) → CallReply t s p (done v s)
@@ -82,7 +83,9 @@ module _ (t : Tables) (s : State) (p : ℕ) where
     unfolding useOwn
     use-own-reply time =
         by-test (CallReply t s p) (own t s p f)
-        (λ h. at-port (f .id - 1) (own-row-there t p f (own-row t s p f h)) (own-row-owned t p f (own-row t s p f h)) (serve time (row t (f .id - 1)) e f (port s (f .id - 1))))
+        (λ h. let k = f .id - 1 in
+        let mine = own-row t s p f h in
+        at-port k (own-row-there t p f mine) (own-row-owned t p f mine) (serve time (row t k) e f (port s k)))
         (λ h. refusing invalid-param)
 
     pub call-reply : (time : ℕ) → CallReply t s p (service t time s p e f)

@@ -56,8 +56,8 @@ module _ (t : Tables) where
   delivered-shaped : (timeAt : ℕ → ℕ) (c : ℕ) (m : Message) (n j : ℕ) (s : State) → Shaped t s → Shaped t (delivered t timeAt c m n j s)
   delivered-shaped timeAt c m zero j s shape = shape
   delivered-shaped timeAt c m (suc n) j s shape =
-      delivered-shaped timeAt c m n (suc j) _
-      (port-shaped s (destinationPort t c j) (arrived (timeAt (destinationPort t c j)) (row t (destinationPort t c j)) m (port s (destinationPort t c j))) shape)
+      let k = destinationPort t c j in
+      delivered-shaped timeAt c m n (suc j) _ (port-shaped s k (arrived (timeAt k) (row t k) m (port s k)) shape)
 
   pub transmit-shaped : (timeAt : ℕ → ℕ) (s : State) (c : ℕ) (queue : List Message) → Shaped t s → Shaped t (stateOf s (transmitOldest t timeAt s c queue))
   transmit-shaped timeAt s c [] shape = shape

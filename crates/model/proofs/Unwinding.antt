@@ -43,6 +43,13 @@ module _ {S E A H : Type 0} (m : Machine S E A H) where
   abbrev pub matteringFor : ℕ → S → List E → List E
   matteringFor p s es = mattering (m .after) (m .doer) (m .hands) (p ∷ m .schedulers) s es
 
+  -- the event e with the list es after it: it matters, and the walk's set when it comes to e
+  abbrev pub mattersFor : ℕ → S → E → List E → Bool
+  mattersFor p s e es = matters (m .hands) (m .doer s e) (setFor p (m .after s e) es)
+
+  abbrev pub later : ℕ → S → E → List E → List ℕ
+  later p s e es = setFor p (m .after s e) es
+
 -- the unwinding conditions, for states with an invariant that each step keeps
 pub record Conditions {S E A H : Type 0} (m : Machine S E A H) (Good : S → Type 0) : Type 0 where
   pub keeps : (s : S) (e : E) → Good s → Good (m .after s e)
@@ -68,8 +75,8 @@ none-passes p [] x none h = cc
 none-passes p (y ∷ ys) x none h = go (eqb x y) refl (none-passes p ys x (neither-right (p y) (anyIn p ys) none))
   where
     go : (b : Bool) → eqb x y ≡ b → (isMember x ys ≡ true → p x ≡ false) → p x ≡ false
-    go true e later = ap p (eqb-true x y e) ∙ neither-left (p y) (anyIn p ys) none
-    go false e later = later (rw e at h)
+    go true e after = ap p (eqb-true x y e) ∙ neither-left (p y) (anyIn p ys) none
+    go false e after = after (rw e at h)
 
 -- what the comparison of two runs gives, for the walk that starts with p and the schedulers
 pub record SameRun {S E A H : Type 0} (m : Machine S E A H) (p : ℕ) (s : S) (es : List E) (s' : S) (es' : List E) : Type 0 where
@@ -82,12 +89,12 @@ module _ {S E A H : Type 0} (m : Machine S E A H) where
   -- the walk loses no member: who is in the set at first is in it at the end
   stays : (p x : ℕ) (s : S) (es : List E) → isMember x (p ∷ m .schedulers) ≡ true → isMember x (setFor m p s es) ≡ true
   stays p x s [] h = h
-  stays p x s (e ∷ es) h = go (matters (m .hands) (m .doer s e) (setFor m p (m .after s e) es)) (stays p x (m .after s e) es h)
+  stays p x s (e ∷ es) h = go (mattersFor m p s e es) (stays p x (m .after s e) es h)
     where
-      go : (b : Bool) → isMember x (setFor m p (m .after s e) es) ≡ true
-          → isMember x (if b then m .doer s e ∷ setFor m p (m .after s e) es else setFor m p (m .after s e) es) ≡ true
-      go true later = rw (later, or-true)
-      go false later = later
+      go : (b : Bool) → isMember x (later m p s e es) ≡ true
+          → isMember x (if b then m .doer s e ∷ later m p s e es else later m p s e es) ≡ true
+      go true h = rw (h, or-true)
+      go false h = h
 
   -- agreement on a set with the schedulers in it is agreement on the schedulers
   on-schedulers : (p : ℕ) (s s' : S) (a : S) (es : List E) → Agree m (setFor m p a es) s s' → Agree m (m .schedulers) s s'
@@ -97,19 +104,19 @@ module _ {S E A H : Type 0} (m : Machine S E A H) where
     -- one event more, which matters: both runs take it
     both-take :
         (s s' : S) (e : E) (es es' : List E) → Good s → Good s'
-        → matters (m .hands) (m .doer s e) (setFor m p (m .after s e) es) ≡ true
-        → Agree m (m .doer s e ∷ setFor m p (m .after s e) es) s s'
-        → (Agree m (setFor m p (m .after s e) es) (m .after s e) (m .after s' e) → SameRun m p (m .after s e) es (m .after s' e) es')
+        → mattersFor m p s e es ≡ true
+        → Agree m (m .doer s e ∷ later m p s e es) s s'
+        → (Agree m (later m p s e es) (m .after s e) (m .after s' e) → SameRun m p (m .after s e) es (m .after s' e) es')
         → SameRun m p s (e ∷ es) s' (e ∷ es')
     both-take s s' e es es' good good' matter agree rest =
         record {
-          sets = rw (← later .sets, ← same-doer, matter);
-          events = rw (← later .sets, ← later .events, ← same-doer, matter);
-          answers = λ q h. rw (← same-doer, ← same-answer, later .answers q h);
-          ends = later .ends;
+          sets = rw (← rest-same .sets, ← same-doer, matter);
+          events = rw (← rest-same .sets, ← rest-same .events, ← same-doer, matter);
+          answers = λ q h. rw (← same-doer, ← same-answer, rest-same .answers q h);
+          ends = rest-same .ends;
         }
       where
-        on-set : Agree m (setFor m p (m .after s e) es) s s'
+        on-set : Agree m (later m p s e es) s s'
         on-set d h = agree d (rw (h, or-true))
 
         on-clock : Agree m (m .schedulers) s s'
@@ -124,32 +131,33 @@ module _ {S E A H : Type 0} (m : Machine S E A H) where
         same-answer : m .answer s e ≡ m .answer s' e
         same-answer = conditions .tells s s' e good good' on-clock on-doer
 
-        later : SameRun m p (m .after s e) es (m .after s' e) es'
-        later = rest (λ d h. conditions .carries s s' e d good good' on-clock on-doer (on-set d h))
+        rest-same : SameRun m p (m .after s e) es (m .after s' e) es'
+        rest-same = rest (λ d h. conditions .carries s s' e d good good' on-clock on-doer (on-set d h))
 
     -- one event more, which does not matter: the first run alone takes it
     one-takes :
         (s s' : S) (e : E) (es es' : List E) → Good s
-        → matters (m .hands) (m .doer s e) (setFor m p (m .after s e) es) ≡ false
-        → Agree m (setFor m p (m .after s e) es) s s'
-        → (Agree m (setFor m p (m .after s e) es) (m .after s e) s' → SameRun m p (m .after s e) es s' es')
+        → mattersFor m p s e es ≡ false
+        → Agree m (later m p s e es) s s'
+        → (Agree m (later m p s e es) (m .after s e) s' → SameRun m p (m .after s e) es s' es')
         → SameRun m p s (e ∷ es) s' es'
     one-takes s s' e es es' good idle agree rest =
         record {
-          sets = rw idle (later .sets);
-          events = rw idle (later .events);
-          answers = λ q h. rw (no-member q (stays p q (m .after s e) es h)) (later .answers q h);
-          ends = later .ends;
+          sets = rw idle (rest-same .sets);
+          events = rw idle (rest-same .events);
+          answers = λ q h. rw (no-member q (stays p q (m .after s e) es h)) (rest-same .answers q h);
+          ends = rest-same .ends;
         }
       where
-        no-member : (d : ℕ) → isMember d (setFor m p (m .after s e) es) ≡ true → eqb (m .doer s e) d ≡ false
-        no-member d h = none-passes (eqb (m .doer s e)) (setFor m p (m .after s e) es) d (neither-left _ _ idle) h
+        no-member : (d : ℕ) → isMember d (later m p s e es) ≡ true → eqb (m .doer s e) d ≡ false
+        no-member d h = none-passes (eqb (m .doer s e)) (later m p s e es) d (neither-left _ _ idle) h
 
-        no-hand : (d : ℕ) → isMember d (setFor m p (m .after s e) es) ≡ true → m .hands (m .doer s e) d ≡ false
-        no-hand d h = none-passes (m .hands (m .doer s e)) (setFor m p (m .after s e) es) d (neither-right (isMember (m .doer s e) (setFor m p (m .after s e) es)) _ idle) h
+        no-hand : (d : ℕ) → isMember d (later m p s e es) ≡ true → m .hands (m .doer s e) d ≡ false
+        no-hand d h =
+            none-passes (m .hands (m .doer s e)) (later m p s e es) d (neither-right (isMember (m .doer s e) (later m p s e es)) _ idle) h
 
-        later : SameRun m p (m .after s e) es s' es'
-        later = rest (λ d h. conditions .leaves s e d good (no-member d h) (no-hand d h) ∙ agree d h)
+        rest-same : SameRun m p (m .after s e) es s' es'
+        rest-same = rest (λ d h. conditions .leaves s e d good (no-member d h) (no-hand d h) ∙ agree d h)
 
     -- the one law: a run of a list, and a run of its mattering events alone from a state that agrees on the final set
     pub alone :
@@ -157,15 +165,17 @@ module _ {S E A H : Type 0} (m : Machine S E A H) where
         → SameRun m p s es s' (matteringFor m p s es)
     alone s s' [] good good' agree = record { sets = refl; events = refl; answers = λ q h. refl; ends = agree }
     alone s s' (e ∷ es) good good' agree =
-        go (matters (m .hands) (m .doer s e) (setFor m p (m .after s e) es)) refl agree
+        go (mattersFor m p s e es) refl agree
         (λ x good-x. alone (m .after s e) x es (conditions .keeps s e good) good-x)
       where
         go :
-            (b : Bool) → matters (m .hands) (m .doer s e) (setFor m p (m .after s e) es) ≡ b
-            → Agree m (if b then m .doer s e ∷ setFor m p (m .after s e) es else setFor m p (m .after s e) es) s s'
-            → ((x : S) → Good x → Agree m (setFor m p (m .after s e) es) (m .after s e) x → SameRun m p (m .after s e) es x (matteringFor m p (m .after s e) es))
+            (b : Bool) → mattersFor m p s e es ≡ b
+            → Agree m (if b then m .doer s e ∷ later m p s e es else later m p s e es) s s'
+            → ((x : S) → Good x → Agree m (later m p s e es) (m .after s e) x
+            → SameRun m p (m .after s e) es x (matteringFor m p (m .after s e) es))
             → SameRun m p s (e ∷ es) s' (if b then e ∷ matteringFor m p (m .after s e) es else matteringFor m p (m .after s e) es)
-        go true matter on rest = both-take s s' e es (matteringFor m p (m .after s e) es) good good' matter on (rest (m .after s' e) (conditions .keeps s' e good'))
+        go true matter on rest =
+            both-take s s' e es (matteringFor m p (m .after s e) es) good good' matter on (rest (m .after s' e) (conditions .keeps s' e good'))
         go false idle on rest = one-takes s s' e es (matteringFor m p (m .after s e) es) good idle on (rest s' good')
 
     -- the theorem: two lists with the same mattering events, from states that agree on the final set of one
