@@ -59,7 +59,9 @@ module _ (t : Tables) where
       let k = destinationPort t c j in
       delivered-shaped timeAt c m n (suc j) _ (port-shaped s k (arrived (timeAt k) (row t k) m (port s k)) shape)
 
-  pub transmit-shaped : (timeAt : ℕ → ℕ) (s : State) (c : ℕ) (queue : List Message) → Shaped t s → Shaped t (stateOf s (transmitOldest t timeAt s c queue))
+  pub transmit-shaped :
+      (timeAt : ℕ → ℕ) (s : State) (c : ℕ) (queue : List Message) → Shaped t s
+      → Shaped t (stateOf s (transmitOldest t timeAt s c queue))
   transmit-shaped timeAt s c [] shape = shape
   transmit-shaped timeAt s c (m ∷ rest) shape =
       delivered-shaped timeAt c m (destinations t c) 0 _ (port-shaped s (sourcePort t c) (withQueue (port s (sourcePort t c)) rest) shape)

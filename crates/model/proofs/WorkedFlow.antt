@@ -56,7 +56,7 @@ receive id = event 8 0 id 0 0 []
 abbrev transmit : ℕ → Event
 transmit channel = event 14 0 channel 0 0 []
 
--- what is done from partition 2's first window on
+-- from partition 2's first window on: the ports are created, 0 sends, channel 0 moves, 1 receives and sends on, channel 1 moves, 2 receives twice
 abbrev onwards : List Event
 onwards =
     clock
@@ -159,7 +159,52 @@ Agrees d = holds flowTables first d ≡ holds flowTables second d
 
 each-agrees : Each Agrees members
 unfolding computing
-each-agrees = (refl, (refl, (refl, (refl, (refl, (refl, (refl, (refl, (refl, (refl, (refl, (refl, (refl, (refl, (refl, (refl, (refl, (refl, (refl, (refl, tt))))))))))))))))))))
+each-agrees = (
+  refl,
+  (
+    refl,
+    (
+      refl,
+      (
+        refl,
+        (
+          refl,
+          (
+            refl,
+            (
+              refl,
+              (
+                refl,
+                (
+                  refl,
+                  (
+                    refl,
+                    (
+                      refl,
+                      (
+                        refl,
+                        (
+                          refl,
+                          (
+                            refl,
+                            (
+                              refl,
+                              (refl, (refl, (refl, (refl, (refl, tt))))),
+                            ),
+                          ),
+                        ),
+                      ),
+                    ),
+                  ),
+                ),
+              ),
+            ),
+          ),
+        ),
+      ),
+    ),
+  ),
+)
 
 members-agree : (d : ℕ) → isMember d (setOf flowTables 2 first onwards) ≡ true → Agrees d
 members-agree = subst (λ l. (d : ℕ) → isMember d l ≡ true → Agrees d) (sym flow-set) (each Agrees members each-agrees)
@@ -202,7 +247,9 @@ unfolding computing
 three-differs same = let z : _≡_ {A = ℕ} 1 3 = ap modeHeld same in omega arith
 
 -- without an event that matters, partition 1's sending on, partition 2 is told something else
-pub without-send : answersTo flowTables 2 first (without 12 onwards) ≡ told 2 (toldId 4) ∷ refusal not-available 2 ∷ refusal not-available 2 ∷ []
+pub without-send :
+    answersTo flowTables 2 first (without 12 onwards)
+    ≡ told 2 (toldId 4) ∷ refusal not-available 2 ∷ refusal not-available 2 ∷ []
 unfolding computing
 without-send = refl
 
