@@ -10,9 +10,10 @@ use lib.Dec.{eqb, lit<}
 use lib.ListN.{set, replicate, take, drop}
 use borrow.Author.Tests.{eqb-true}
 use Rattle.model.proofs.Computing.{computing}
+use Rattle.model.proofs.Tests.{both-left, both-right}
 use Rattle.model.proofs.NonInterference.{SameView, noninterference}
 use Rattle.model.proofs.Laid.{windowRow, portRow, channelRow, event}
-use Rattle.model.specs.Words.{zeros}
+use Rattle.model.specs.Words.{zeros, allIn}
 use Rattle.model.specs.Tables.{Tables}
 use Rattle.model.specs.Load.{accepts}
 use Rattle.model.specs.State.{State, fresh, loaded}
@@ -141,12 +142,15 @@ pub flow-set : setOf flowTables 2 first onwards ≡ members
 unfolding computing
 flow-set = refl
 
--- the premises. Each member of that set holds the same in both states
+-- the premises. Each member of that set holds the same in both states: the six doers that stand in it
+abbrev doers : List ℕ
+doers = 32 ∷ 2 ∷ 1 ∷ 0 ∷ 64 ∷ 65 ∷ []
+
 abbrev Each : (ℕ → Type 0) → List ℕ → Type 0
 Each P [] = Unit {0}
 Each P (d ∷ ds) = P d × Each P ds
 
-each : (P : ℕ → Type 0) (members : List ℕ) → Each P members → (d : ℕ) → isMember d members ≡ true → P d
+each : (P : ℕ → Type 0) (ds : List ℕ) → Each P ds → (d : ℕ) → isMember d ds ≡ true → P d
 each P [] all d h = absurd (false≢true h)
 each P (x ∷ xs) all d h = go (eqb d x) refl (each P xs (all .1) d)
   where
@@ -154,60 +158,25 @@ each P (x ∷ xs) all d h = go (eqb d x) refl (each P xs (all .1) d)
     go true e later = rw (eqb-true d x e) (all .0)
     go false e later = later (rw e at h)
 
+within : (xs ys : List ℕ) → allIn (λ x. isMember x ys) xs ≡ true → (d : ℕ) → isMember d xs ≡ true → isMember d ys ≡ true
+within [] ys all d h = absurd (false≢true h)
+within (x ∷ xs) ys all d h = go (eqb d x) refl (within xs ys (both-right (isMember x ys) (allIn (λ z. isMember z ys) xs) all) d)
+  where
+    go : (b : Bool) → eqb d x ≡ b → (isMember d xs ≡ true → isMember d ys ≡ true) → isMember d ys ≡ true
+    go true e later = rw (eqb-true d x e) (both-left (isMember x ys) (allIn (λ z. isMember z ys) xs) all)
+    go false e later = later (rw e at h)
+
 abbrev Agrees : ℕ → Type 0
 Agrees d = holds flowTables first d ≡ holds flowTables second d
 
-each-agrees : Each Agrees members
+each-agrees : Each Agrees doers
 unfolding computing
-each-agrees = (
-  refl,
-  (
-    refl,
-    (
-      refl,
-      (
-        refl,
-        (
-          refl,
-          (
-            refl,
-            (
-              refl,
-              (
-                refl,
-                (
-                  refl,
-                  (
-                    refl,
-                    (
-                      refl,
-                      (
-                        refl,
-                        (
-                          refl,
-                          (
-                            refl,
-                            (
-                              refl,
-                              (refl, (refl, (refl, (refl, (refl, tt))))),
-                            ),
-                          ),
-                        ),
-                      ),
-                    ),
-                  ),
-                ),
-              ),
-            ),
-          ),
-        ),
-      ),
-    ),
-  ),
-)
+each-agrees = (refl, (refl, (refl, (refl, (refl, (refl, tt))))))
 
 members-agree : (d : ℕ) → isMember d (setOf flowTables 2 first onwards) ≡ true → Agrees d
-members-agree = subst (λ l. (d : ℕ) → isMember d l ≡ true → Agrees d) (sym flow-set) (each Agrees members each-agrees)
+members-agree =
+    subst (λ l. (d : ℕ) → isMember d l ≡ true → Agrees d) (sym flow-set)
+    (λ d h. each Agrees doers each-agrees d (within members doers refl d h))
 
 -- the same events matter: all of the first list, and of the second what stands in the first
 first-mattering : matteringTo flowTables 2 first onwards ≡ onwards
