@@ -1,3 +1,4 @@
 pub mod Accepted
 pub mod Computing
+pub mod Searches
 pub mod Worked
