@@ -3,27 +3,27 @@
 mod bytes;
 //mod ends;
 //mod fields;
-//mod layout;
+mod layout;
 //mod load;
 //mod names;
-//mod rows;
+mod rows;
 
 //pub use ends::destination_count;
 //pub use ends::destination_port;
 //pub use ends::source_port;
-//pub use layout::channel_count;
-//pub use layout::port_count;
-//pub use layout::ports_end;
-//pub use layout::records;
-//pub use layout::window_length;
-//pub use layout::window_partition;
-//pub use layout::windows;
+pub use layout::channel_count;
+pub use layout::port_count;
+pub use layout::ports_end;
+pub use layout::records;
+pub use layout::window_length;
+pub use layout::window_partition;
+pub use layout::windows;
 //pub use load::judge;
 //pub use names::same_name;
-//pub use rows::depth;
-//pub use rows::mode;
-//pub use rows::port_row;
-//pub use rows::refresh;
+pub use rows::depth;
+pub use rows::mode;
+pub use rows::port_row;
+pub use rows::refresh;
 
 // What a load says of tables. `verdictOf` of specs/Shown.antt gives the paper's number and record for each case.
 pub enum Verdict {

@@ -1,0 +1,3 @@
+-- What the contracts of the loader cite besides the model: the paper's numbers for the cases of its enums and for a decoded row.
+-- Definitions alone: nothing is assumed.
+pub mod Shown
