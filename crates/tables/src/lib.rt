@@ -2,10 +2,10 @@
 // each read where it stands. Nothing is collected. Every function's contract is an equation with the model's definition of the same name.
 mod bytes;
 //mod ends;
-//mod fields;
+mod fields;
 mod layout;
 //mod load;
-//mod names;
+mod names;
 mod rows;
 
 //pub use ends::destination_count;
@@ -19,7 +19,7 @@ pub use layout::window_length;
 pub use layout::window_partition;
 pub use layout::windows;
 //pub use load::judge;
-//pub use names::same_name;
+pub use names::same_name;
 pub use rows::depth;
 pub use rows::mode;
 pub use rows::port_row;
