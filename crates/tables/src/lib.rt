@@ -1,7 +1,7 @@
 // The loader of 01, "Tables" and "Load refusals": the verdict on the caller's bytes, and the rows, counts and ends of the tables,
 // each read where it stands. Nothing is collected. Every function's contract is an equation with the model's definition of the same name.
 mod bytes;
-//mod ends;
+mod ends;
 mod fields;
 mod layout;
 //mod load;

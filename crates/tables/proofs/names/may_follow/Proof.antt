@@ -1,15 +1,14 @@
+-- `tables::names::may_follow` meets its contract: the first test says whether the second decides.
+-- Assumes nothing.
 use Rattle.tables.proofs.names.may_follow.Statement.{statement}
 use Rattle.tables.proofs.names.may_follow.Tie as tie
-use Rattle.tables.proofs.names.may_follow.Reads as reads
-use Rattle.tables.proofs.names.may_follow.Lts as lts
+use borrow.Author.Tests.{eq-eqb, ne-eqb}
 
--- src/names.rt:13:1
 returns : tie.Need-returns
-returns c = ?
+returns c = rw (ne-eqb _ _ (c .if1 .taken))
 
--- src/names.rt:13:1
 returns-2 : tie.Need-returns-2
-returns-2 c = ?
+returns-2 c = rw (eq-eqb _ _ (c .if1 .left))
 
 pub may-follow-spec : {M : Type 1} → statement M
 may-follow-spec = tie.close (tie.spec returns returns-2)
