@@ -3,14 +3,14 @@
 -- Assumes nothing.
 use Prim.Native.Nat.{ℕ, _+_, _-_, _≤_, _<_}
 use mathlib.Core.Path.{_≡_, refl, ap, sym, _∙_}
-use mathlib.Core.Bool.{Bool, true, false, _&&_, not, false≢true}
+use mathlib.Core.Bool.{Bool, true, false, _&&_, _||_, not, false≢true}
 use native.Mathlib.Nat.{le-refl}
 use native.Mathlib.Omega.{arith}
 use lib.Dec.{leb, ltb, eqb}
 use borrow.Author.Tests.{eq-eqb, ne-eqb, le-leb, leb-true, ltb-true, ltb-false, eqb-true, eqb-false, not-false}
 use Rattle.model.specs.Words.{if_then_else_, between}
-use Rattle.model.specs.Tables.{Tables, records, kind, windows, portsEnd, ports, source, destination, Row, rowAt, row, endAt}
-use Rattle.model.specs.Load.{byKind, windowFits, rowFits, portFits, channelFits, idRow, endFits}
+use Rattle.model.specs.Tables.{Tables, records, kind, windows, portsEnd, ports, queuing, source, destination, Row, rowAt, row, destinationsAt, endAt}
+use Rattle.model.specs.Load.{byKind, windowFits, rowFits, portFits, channelFits, idRow, endFits, countFits}
 use Rattle.model.specs.Load.{kindFault, countFault, fieldFault, nameFault, endFault, fault}
 use Rattle.tables.specs.Shown.{modeOf, transferOf, decoded}
 use Rattle.tables.specs.Known.{Placed, FaultlessBefore, ModesFit, SourceRow}
@@ -50,6 +50,12 @@ source-end t r = rw (eq-eqb (idRow t (endAt t r 0) .mode) _ refl, le-leb (idRow 
 pub source-rowed : (t : Tables) (r : ℕ) → endFits t r 0 ≡ true → between 1 (ports t) (endAt t r 0) ≡ true
 source-rowed t r e = left _ _ (sym (source-end t r) ∙ e)
 
+-- the source's row, as the loader has it once end 0 fits
+pub source-row :
+    {t : Tables} {r id : ℕ} {from : PortRow} → endFits t r 0 ≡ true → id ≡ endAt t r 0 → from ≡ decoded (idRow t id) → SourceRow t r from
+source-row {t} {r} fits e shown =
+    record { rowed = source-rowed t r fits; shown = shown ∙ ap (λ (i : ℕ). decoded (idRow t i)) e }
+
 -- whether an id has a row, as the loader asks it
 pub has-row :
     {t : Tables} {port channel r id end : ℕ} {answer : Bool} → Placed t port channel r → id ≡ end → answer ≡ between 1 (channel - port) id
@@ -81,6 +87,12 @@ unfolding endFits
 destination-end t r j from known fit some e =
     let zero : eqb j 0 ≡ false = ne-eqb j 0 (λ z. omega arith) in
     rw (known .shown, mode-of t (endAt t r j) fit e, mode-of t (endAt t r 0) fit (known .rowed), e, zero)
+
+-- the test of a channel's count, in terms of the source's row as it is decoded
+pub count-of : (t : Tables) (r : ℕ) (from : PortRow) → SourceRow t r from → ModesFit t
+    → countFits t r ≡ (not (eqb (modeOf (from .transfer)) queuing) || eqb (destinationsAt t r) 1)
+unfolding countFits
+count-of t r from known fit = rw (known .shown, mode-of t (endAt t r 0) fit (known .rowed))
 
 -- where the records before r have no fault, and r is past the ports, each port's mode is one of the two
 fields-fit :

@@ -4,7 +4,7 @@ mod bytes;
 mod ends;
 mod fields;
 mod layout;
-//mod load;
+mod load;
 mod names;
 mod rows;
 
@@ -18,7 +18,7 @@ pub use layout::records;
 pub use layout::window_length;
 pub use layout::window_partition;
 pub use layout::windows;
-//pub use load::judge;
+pub use load::judge;
 pub use names::same_name;
 pub use rows::depth;
 pub use rows::mode;

@@ -1,66 +1,78 @@
+-- `tables::ends::channel_ends_fit` meets its contract: each test is a part of the definition, in its order.
+-- Assumes nothing.
 use borrow.Author.Needs.{needs}
 use Rattle.tables.proofs.ends.channel_ends_fit.Statement.{statement}
 use Rattle.tables.proofs.ends.channel_ends_fit.Tie as tie
-use Rattle.tables.proofs.ends.channel_ends_fit.Reads as reads
-use Rattle.tables.proofs.ends.channel_ends_fit.Lts as lts
-use Rattle.tables.proofs.ends.count_fits.Reads as count-fits-reads
-use Rattle.tables.proofs.ends.destinations_fit.Reads as destinations-fit-reads
-use Rattle.tables.proofs.ends.end_at.Reads as end-at-reads
-use Rattle.tables.proofs.ends.id_row.Reads as id-row-reads
-use Rattle.tables.proofs.ends.named_again.Reads as named-again-reads
-use Rattle.tables.proofs.ends.source_fits.Reads as source-fits-reads
+use mathlib.Core.Path.{ap, sym, _∙_}
+use mathlib.Core.Bool.{not}
+use Rattle.model.specs.Load.{channelEndsFit}
+use Rattle.tables.proofs.Answers.{fails, holds}
+use Rattle.tables.proofs.Channels.{source-rowed, source-row, count-of}
 
--- src/ends.rt:192:9
 source-fits-requires : tie.Need-source-fits-requires
 source-fits-requires c κs = search needs
 
--- src/ends.rt:193:9
 returns : tie.Need-returns
-returns c = ?
+unfolding channelEndsFit
+returns c = rw (fails (c .before .source-fits .ensures) (c .if1 .taken))
 
--- src/ends.rt:195:40
 end-at-requires : tie.Need-end-at-requires
 end-at-requires c κs = search needs
 
--- src/ends.rt:195:9
 id-row-requires : tie.Need-id-row-requires
-id-row-requires c κs = ?
+id-row-requires c κs = 
+    let source = c .before .before .source-fits .ensures in
+    (c .before .before .before .before .pre .0 .ported, rw (c .end-at .ensures) (source-rowed _ _ (holds source (c .before .if1 .left))))
 
--- src/ends.rt:196:9
 destinations-fit-requires : tie.Need-destinations-fit-requires
-destinations-fit-requires c κs = ?
+destinations-fit-requires c κs = 
+    let one = c .before .before in
+    let given = one .before .before .before .pre in
+    (given .0, (source-row (holds (one .before .source-fits .ensures) (one .if1 .left)) (c .before .end-at .ensures) (c .id-row .ensures), given .1))
 
--- src/ends.rt:197:9
 returns-2 : tie.Need-returns-2
-returns-2 c = ?
+unfolding channelEndsFit
+returns-2 c = 
+    let one = c .before .before .before .before in
+    rw (holds (one .before .source-fits .ensures) (one .if1 .left), fails (c .before .destinations-fit .ensures) (c .if2 .taken))
 
--- src/ends.rt:199:30
 mul-count-fits : tie.Need-mul-count-fits
 mul-count-fits c = search needs
 
--- src/ends.rt:199:30
 add-count-fits : tie.Need-add-count-fits
 add-count-fits c = search needs
 
--- src/ends.rt:199:28
 shared-slice-read-count-fits : tie.Need-shared-slice-read-count-fits
 shared-slice-read-count-fits c = search needs
 
--- src/ends.rt:199:9
 count-fits-requires : tie.Need-count-fits-requires
 count-fits-requires c κs = search needs
 
--- src/ends.rt:200:9
 returns-3 : tie.Need-returns-3
-returns-3 c = ?
+unfolding channelEndsFit
+returns-3 c = 
+    let two = c .before .before .before in
+    let one = two .before .before .before .before in
+    let given = one .before .before .before in
+    let fits = holds (one .before .source-fits .ensures) (one .if1 .left) in
+    let known = source-row fits (two .before .before .before .end-at .ensures) (two .before .before .id-row .ensures) in
+    let counted = c .before .count-fits .ensures ∙ sym (count-of (given .args .t .now) (given .args .r) _ known (given .pre .1)) in
+    rw (fits, holds (two .before .destinations-fit .ensures) (two .if2 .left), fails counted (c .if3 .taken))
 
--- src/ends.rt:202:6
 named-again-requires : tie.Need-named-again-requires
 named-again-requires c κs = search needs
 
--- src/ends.rt:187:1
 returns-4 : tie.Need-returns-4
-returns-4 c = ?
+unfolding channelEndsFit
+returns-4 c = 
+    let three = c .before in
+    let two = three .before .before .before in
+    let one = two .before .before .before .before in
+    let given = one .before .before .before in
+    let fits = holds (one .before .source-fits .ensures) (one .if1 .left) in
+    let known = source-row fits (two .before .before .before .end-at .ensures) (two .before .before .id-row .ensures) in
+    let counted = three .before .count-fits .ensures ∙ sym (count-of (given .args .t .now) (given .args .r) _ known (given .pre .1)) in
+    rw (fits, holds (two .before .destinations-fit .ensures) (two .if2 .left), holds counted (three .if3 .left)) (ap not (c .named-again .ensures))
 
 pub channel-ends-fit-spec : {M : Type 1} → statement M
 channel-ends-fit-spec =

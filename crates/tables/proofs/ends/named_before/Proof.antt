@@ -1,31 +1,29 @@
+-- `tables::ends::named_before` meets its contract: the search in the channel itself says whether the one in the earlier channels decides.
+-- Assumes nothing.
 use borrow.Author.Needs.{needs}
 use Rattle.tables.proofs.ends.named_before.Statement.{statement}
 use Rattle.tables.proofs.ends.named_before.Tie as tie
-use Rattle.tables.proofs.ends.named_before.Reads as reads
-use Rattle.tables.proofs.ends.named_before.Lts as lts
-use Rattle.tables.proofs.ends.end_at.Reads as end-at-reads
-use Rattle.tables.proofs.ends.named_among.Reads as named-among-reads
-use Rattle.tables.proofs.ends.named_in_earlier.Reads as named-in-earlier-reads
+use mathlib.Core.Path.{sym, _∙_}
+use Rattle.model.specs.Load.{namedBefore}
 
--- src/ends.rt:166:9
 end-at-requires : tie.Need-end-at-requires
 end-at-requires c κs = search needs
 
--- src/ends.rt:167:5
 named-among-requires : tie.Need-named-among-requires
 named-among-requires c κs = search needs
 
--- src/ends.rt:167:33
 named-in-earlier-requires : tie.Need-named-in-earlier-requires
 named-in-earlier-requires c κs = search needs
 
--- src/ends.rt:161:1
 returns : tie.Need-returns
-returns c = ?
+unfolding namedBefore
+returns c = rw (← c .before .before .end-at .ensures, sym (c .before .named-among .ensures) ∙ c .if1 .taken) (c .if1 .taken)
 
--- src/ends.rt:161:1
 returns-2 : tie.Need-returns-2
-returns-2 c = ?
+unfolding namedBefore
+returns-2 c = 
+    let one = c .before in
+    rw (← one .before .before .end-at .ensures, sym (one .before .named-among .ensures) ∙ one .if1 .left) (c .named-in-earlier .ensures)
 
 pub named-before-spec : {M : Type 1} → statement M
 named-before-spec =

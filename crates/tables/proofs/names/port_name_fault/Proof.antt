@@ -20,7 +20,7 @@ named-earlier-requires c κs = search needs
 
 returns : tie.Need-returns
 unfolding portNameFault
-returns c = rw (fails (c .before .name-fits .ensures) (c .if1 .taken))
+returns c = rw (fails (c .before .name-fits .ensures) (c .if1 .taken)) (c .if1 .taken)
 
 returns-2 : tie.Need-returns-2
 unfolding portNameFault
