@@ -1,34 +1,38 @@
+-- `tables::load::count_fault` meets its contract: the record's kind says which count is meant.
+-- Assumes nothing.
 use borrow.Author.Needs.{needs}
 use Rattle.tables.proofs.load.count_fault.Statement.{statement}
 use Rattle.tables.proofs.load.count_fault.Tie as tie
-use Rattle.tables.proofs.load.count_fault.Reads as reads
-use Rattle.tables.proofs.load.count_fault.Lts as lts
-use Rattle.tables.proofs.layout.kind.Reads as kind-reads
-use Rattle.tables.proofs.load.beyond.Reads as beyond-reads
+use mathlib.Core.Path.{sym, _∙_}
+use borrow.Author.Tests.{ne-eqb}
+use Rattle.model.specs.Load.{countFault}
 
--- src/load.rt:59:9
 kind-requires : tie.Need-kind-requires
 kind-requires c κs = search needs
 
--- src/load.rt:61:9
 returns : tie.Need-returns
-returns c = ?
+unfolding countFault
+returns c = rw (← c .before .kind .ensures, c .if1 .taken)
 
--- src/load.rt:64:22
 beyond-requires : tie.Need-beyond-requires
 beyond-requires c κs = search needs
 
--- src/load.rt:64:9
 returns-2 : tie.Need-returns-2
-returns-2 c = ?
+unfolding countFault
+returns-2 c = 
+    let known = c .before .before .before in
+    rw (← known .kind .ensures, c .before .if2 .taken, ← known .before .before .pre .ported, ← c .beyond .ensures)
 
--- src/load.rt:66:11
 beyond-requires-2 : tie.Need-beyond-requires-2
 beyond-requires-2 c κs = search needs
 
--- src/load.rt:55:1
 returns-3 : tie.Need-returns-3
-returns-3 c = ?
+unfolding countFault
+returns-3 c = 
+    let known = c .before .before .before in
+    rw
+    (← known .kind .ensures, ne-eqb _ 1 (c .before .before .if1 .left), ne-eqb _ 2 (c .before .if2 .left),
+     ← known .before .before .pre .channeled, ← c .beyond2 .ensures)
 
 pub count-fault-spec : {M : Type 1} → statement M
 count-fault-spec =

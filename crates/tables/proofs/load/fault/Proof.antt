@@ -1,57 +1,78 @@
+-- `tables::load::fault` meets its contract: each test is a part of the definition, in its order.
+-- Assumes nothing.
 use borrow.Author.Needs.{needs}
 use Rattle.tables.proofs.load.fault.Statement.{statement}
 use Rattle.tables.proofs.load.fault.Tie as tie
-use Rattle.tables.proofs.load.fault.Reads as reads
-use Rattle.tables.proofs.load.fault.Lts as lts
-use Rattle.tables.proofs.ends.end_fault.Reads as end-fault-reads
-use Rattle.tables.proofs.fields.field_fault.Reads as field-fault-reads
-use Rattle.tables.proofs.load.count_fault.Reads as count-fault-reads
-use Rattle.tables.proofs.load.kind_fault.Reads as kind-fault-reads
-use Rattle.tables.proofs.names.name_fault.Reads as name-fault-reads
+use mathlib.Core.Path.{sym, _∙_}
+use Rattle.model.specs.Load.{fault}
 
--- src/load.rt:75:8
 kind-fault-requires : tie.Need-kind-fault-requires
 kind-fault-requires c κs = search needs
 
--- src/load.rt:76:9
 returns : tie.Need-returns
-returns c = ?
+unfolding fault
+returns c = rw (← c .before .kind-fault .ensures, c .if1 .taken)
 
--- src/load.rt:78:8
 count-fault-requires : tie.Need-count-fault-requires
 count-fault-requires c κs = search needs
 
--- src/load.rt:79:9
 returns-2 : tie.Need-returns-2
-returns-2 c = ?
+unfolding fault
+returns-2 c = 
+    let one = c .before .before in
+    rw (← one .before .kind-fault .ensures, one .if1 .left, ← c .before .count-fault .ensures, c .if2 .taken)
 
--- src/load.rt:81:8
 field-fault-requires : tie.Need-field-fault-requires
 field-fault-requires c κs = search needs
 
--- src/load.rt:82:9
 returns-3 : tie.Need-returns-3
-returns-3 c = ?
+unfolding fault
+returns-3 c = 
+    let two = c .before .before in
+    let one = two .before .before in
+    rw
+    (← one .before .kind-fault .ensures, one .if1 .left, ← two .before .count-fault .ensures, two .if2 .left,
+     ← c .before .field-fault .ensures, c .if3 .taken)
 
--- src/load.rt:84:8
 name-fault-requires : tie.Need-name-fault-requires
 name-fault-requires c κs = search needs
 
--- src/load.rt:85:9
 returns-4 : tie.Need-returns-4
-returns-4 c = ?
+unfolding fault
+returns-4 c = 
+    let three = c .before .before in
+    let two = three .before .before in
+    let one = two .before .before in
+    rw
+    (← one .before .kind-fault .ensures, one .if1 .left, ← two .before .count-fault .ensures, two .if2 .left,
+     ← three .before .field-fault .ensures, three .if3 .left, ← c .before .name-fault .ensures, c .if4 .taken)
 
--- src/load.rt:87:8
 end-fault-requires : tie.Need-end-fault-requires
 end-fault-requires c κs = search needs
 
--- src/load.rt:88:9
 returns-5 : tie.Need-returns-5
-returns-5 c = ?
+unfolding fault
+returns-5 c = 
+    let four = c .before .before in
+    let three = four .before .before in
+    let two = three .before .before in
+    let one = two .before .before in
+    rw
+    (← one .before .kind-fault .ensures, one .if1 .left, ← two .before .count-fault .ensures, two .if2 .left,
+     ← three .before .field-fault .ensures, three .if3 .left, ← four .before .name-fault .ensures, four .if4 .left,
+     ← c .before .end-fault .ensures, c .if5 .taken)
 
--- src/load.rt:70:1
 returns-6 : tie.Need-returns-6
-returns-6 c = ?
+unfolding fault
+returns-6 c = 
+    let four = c .before .before in
+    let three = four .before .before in
+    let two = three .before .before in
+    let one = two .before .before in
+    rw
+    (← one .before .kind-fault .ensures, one .if1 .left, ← two .before .count-fault .ensures, two .if2 .left,
+     ← three .before .field-fault .ensures, three .if3 .left, ← four .before .name-fault .ensures, four .if4 .left,
+     ← c .before .end-fault .ensures, c .if5 .left)
 
 pub fault-spec : {M : Type 1} → statement M
 fault-spec =

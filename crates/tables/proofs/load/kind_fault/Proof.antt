@@ -1,36 +1,37 @@
+-- `tables::load::kind_fault` meets its contract: the test on the kind says whether the one on its order decides.
+-- Assumes nothing.
 use borrow.Author.Needs.{needs}
 use Rattle.tables.proofs.load.kind_fault.Statement.{statement}
 use Rattle.tables.proofs.load.kind_fault.Tie as tie
-use Rattle.tables.proofs.load.kind_fault.Reads as reads
-use Rattle.tables.proofs.load.kind_fault.Lts as lts
-use Rattle.tables.proofs.bytes.wide.Reads as wide-reads
-use Rattle.tables.proofs.fields.between.Reads as between-reads
-use Rattle.tables.proofs.layout.kind.Reads as kind-reads
-use Rattle.tables.proofs.load.below_before.Reads as below-before-reads
+use mathlib.Core.Path.{ap, _∙_}
+use Rattle.model.specs.Words.{between}
+use Rattle.model.specs.Load.{kindFault}
+use Rattle.tables.proofs.Answers.{fails, holds}
 
--- src/load.rt:44:25
 kind-requires : tie.Need-kind-requires
 kind-requires c κs = search needs
 
--- src/load.rt:44:20
 wide-requires : tie.Need-wide-requires
 wide-requires c κs = search needs
 
--- src/load.rt:44:6
 between-requires : tie.Need-between-requires
 between-requires c κs = search needs
 
--- src/load.rt:44:41
 below-before-requires : tie.Need-below-before-requires
 below-before-requires c κs = search needs
 
--- src/load.rt:40:1
 returns : tie.Need-returns
-returns c = ?
+unfolding kindFault
+returns c = 
+    let test = c .before .between .ensures ∙ ap (between 1 3) (c .before .before .wide .ensures ∙ c .before .before .before .kind .ensures) in
+    rw (fails test (c .if1 .taken)) (c .if1 .taken)
 
--- src/load.rt:40:1
 returns-2 : tie.Need-returns-2
-returns-2 c = ?
+unfolding kindFault
+returns-2 c = 
+    let one = c .before in
+    let test = one .before .between .ensures ∙ ap (between 1 3) (one .before .before .wide .ensures ∙ one .before .before .before .kind .ensures) in
+    rw (holds test (one .if1 .left)) (c .below-before .ensures)
 
 pub kind-fault-spec : {M : Type 1} → statement M
 kind-fault-spec =

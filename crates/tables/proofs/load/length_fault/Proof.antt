@@ -1,15 +1,17 @@
+-- `tables::load::length_fault` meets its contract: the first test says whether the second decides.
+-- Assumes nothing.
 use Rattle.tables.proofs.load.length_fault.Statement.{statement}
 use Rattle.tables.proofs.load.length_fault.Tie as tie
-use Rattle.tables.proofs.load.length_fault.Reads as reads
-use Rattle.tables.proofs.load.length_fault.Lts as lts
+use borrow.Author.Tests.{eq-eqb, ne-eqb}
+use Rattle.model.specs.Load.{lengthFault}
 
--- src/load.rt:22:1
 returns : tie.Need-returns
-returns c = ?
+unfolding lengthFault
+returns c = rw (eq-eqb _ 0 (c .if1 .taken))
 
--- src/load.rt:22:1
 returns-2 : tie.Need-returns-2
-returns-2 c = ?
+unfolding lengthFault
+returns-2 c = rw (ne-eqb _ 0 (c .if1 .left))
 
 pub length-fault-spec : {M : Type 1} → statement M
 length-fault-spec = tie.close (tie.spec returns returns-2)
