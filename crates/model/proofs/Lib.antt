@@ -10,6 +10,7 @@ pub mod Ranges
 pub mod RangesKept
 pub mod Reached
 pub mod Computing
+pub mod Searches
 pub mod Laid
 pub mod Worked
 pub mod Edges

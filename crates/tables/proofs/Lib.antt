@@ -1,0 +1,4 @@
+pub mod Answers
+pub mod Channels
+pub mod Faults
+pub mod Places

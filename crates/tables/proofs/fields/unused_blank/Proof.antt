@@ -1,0 +1,93 @@
+-- `tables::fields::unused_blank` meets its contract. The loop's invariant: the whole search is what is left of it from j on.
+-- Assumes nothing.
+use borrow.Author.Needs.{needs}
+use Rattle.tables.proofs.fields.unused_blank.Statement.{statement}
+use Rattle.tables.proofs.fields.unused_blank.Tie as tie
+use Prim.Native.Nat.{ℕ, suc, _-_, _≤_}
+use mathlib.Core.Path.{_≡_, sym, _∙_}
+use mathlib.Core.Bool.{Bool}
+use native.Mathlib.Numerals.{add-one}
+use native.Mathlib.Omega.{arith}
+use borrow.Author.Tests.{eq-eqb, ne-eqb}
+use lib.Dec.{eqb}
+use Rattle.model.specs.Words.{all}
+use Rattle.model.specs.Tables.{Tables, endAt}
+use Rattle.model.proofs.Searches.{all-more, all-stop, all-end}
+use Rattle.tables.specs.Pieces.{unusedBlank}
+
+abbrev isUnused : Tables → ℕ → ℕ → Bool
+isUnused t r j = eqb (endAt t r j) 0
+
+-- the eight ids end at 9, where a search that begins after the count began
+rest : (count : ℕ) → 9 - suc count ≡ 8 - count
+rest count = omega arith
+
+abbrev Inv-loop : tie.InvT-loop
+Inv-loop t r count j₀ j = unusedBlank t r count ≡ all (isUnused t r) (9 - j) j
+
+abbrev μ-loop : tie.MeasureT-loop
+μ-loop t r count j₀ j = 9 - j
+
+add-j : tie.Need-add-j Inv-loop μ-loop
+add-j c = search needs
+
+loop-holds : tie.Need-loop-holds Inv-loop μ-loop
+loop-holds c = rw (add-one, rest)
+
+mul-word16 : tie.Need-mul-word16 Inv-loop μ-loop
+mul-word16 c = search needs
+
+add-word16 : tie.Need-add-word16 Inv-loop μ-loop
+add-word16 c = search needs
+
+mul-word16-2 : tie.Need-mul-word16-2 Inv-loop μ-loop
+mul-word16-2 c = search needs
+
+add-word16-2 : tie.Need-add-word16-2 Inv-loop μ-loop
+add-word16-2 c = search needs
+
+word16-requires : tie.Need-word16-requires Inv-loop μ-loop
+word16-requires c κs = search needs
+
+returns : tie.Need-returns Inv-loop μ-loop
+returns c = 
+    let t = c .before .before .before .before .before .args in
+    let at = c .before .before .before .loop in
+    sym (at .inv ∙ all-stop (isUnused (t .t .now) (t .r)) 9 (at .j) (c .before .before .loop-test .taken) (ne-eqb _ _ (λ e. c .if1 .taken (c .before .word16 .ensures ∙ e))))
+
+add-j-2 : tie.Need-add-j-2 Inv-loop μ-loop
+add-j-2 c = search needs
+
+loop-less : tie.Need-loop-less Inv-loop μ-loop
+loop-less c = search needs
+
+loop-again : tie.Need-loop-again Inv-loop μ-loop
+loop-again c = 
+    let t = c .before .before .before .before .before .args in
+    let at = c .before .before .before .loop in
+    at .inv ∙ all-more (isUnused (t .t .now) (t .r)) 9 (at .j) (c .before .before .loop-test .taken) (eq-eqb _ _ (sym (c .before .word16 .ensures) ∙ c .if1 .left))
+
+returns-2 : tie.Need-returns-2 Inv-loop μ-loop
+returns-2 c = 
+    let t = c .before .before .before .args in
+    let at = c .before .loop in
+    sym (at .inv ∙ all-end (isUnused (t .t .now) (t .r)) 9 (at .j) (c .loop-test .left))
+
+pub unused-blank-spec : {M : Type 1} → statement M
+unused-blank-spec =
+    tie.close
+    (tie.spec
+    Inv-loop
+    μ-loop
+    add-j
+    loop-holds
+    mul-word16
+    add-word16
+    mul-word16-2
+    add-word16-2
+    word16-requires
+    returns
+    add-j-2
+    loop-less
+    loop-again
+    returns-2)

@@ -1,0 +1,79 @@
+-- `tables::names::same_name` meets its contract. The loop's invariant: the whole search is what is left of it from k on.
+-- Assumes nothing.
+use borrow.Author.Needs.{needs}
+use Rattle.tables.proofs.names.same_name.Statement.{statement}
+use Rattle.tables.proofs.names.same_name.Tie as tie
+use Prim.Native.Nat.{ℕ, _+_, _-_}
+use mathlib.Core.Path.{_≡_, sym, _∙_}
+use mathlib.Core.Bool.{Bool}
+use mathlib.Core.List.{List}
+use borrow.Author.Tests.{eq-eqb, ne-eqb}
+use lib.Dec.{eqb}
+use Rattle.model.specs.Words.{all, byte}
+use Rattle.model.specs.Tables.{sameName}
+use Rattle.model.proofs.Searches.{all-more, all-stop, all-end}
+
+abbrev sameAt : List ℕ → ℕ → List ℕ → ℕ → ℕ → Bool
+sameAt a at b bt k = eqb (byte a (at + k)) (byte b (bt + k))
+
+abbrev Inv-loop : tie.InvT-loop
+Inv-loop a at b bt k₀ k = sameName a at b bt ≡ all (sameAt a at b bt) (30 - k) k
+
+abbrev μ-loop : tie.MeasureT-loop
+μ-loop a at b bt k₀ k = 30 - k
+
+loop-holds : tie.Need-loop-holds Inv-loop μ-loop
+unfolding sameName
+loop-holds c = search needs
+
+add-if1 : tie.Need-add-if1 Inv-loop μ-loop
+add-if1 c = search needs
+
+shared-slice-read-if1 : tie.Need-shared-slice-read-if1 Inv-loop μ-loop
+shared-slice-read-if1 c = search needs
+
+add-if1-2 : tie.Need-add-if1-2 Inv-loop μ-loop
+add-if1-2 c = search needs
+
+shared-slice-read-if1-2 : tie.Need-shared-slice-read-if1-2 Inv-loop μ-loop
+shared-slice-read-if1-2 c = search needs
+
+returns : tie.Need-returns Inv-loop μ-loop
+returns c = 
+    let x = c .before .before .before .before .before .args in
+    let at = c .before .before .before .before .loop in
+    sym (at .inv ∙ all-stop (sameAt (x .a .now) (x .at) (x .b .now) (x .bt)) 30 (at .k) (c .before .before .before .loop-test .taken) (ne-eqb _ _ (c .if1 .taken)))
+
+add-k : tie.Need-add-k Inv-loop μ-loop
+add-k c = search needs
+
+loop-less : tie.Need-loop-less Inv-loop μ-loop
+loop-less c = search needs
+
+loop-again : tie.Need-loop-again Inv-loop μ-loop
+loop-again c = 
+    let x = c .before .before .before .before .before .args in
+    let at = c .before .before .before .before .loop in
+    at .inv ∙ all-more (sameAt (x .a .now) (x .at) (x .b .now) (x .bt)) 30 (at .k) (c .before .before .before .loop-test .taken) (eq-eqb _ _ (c .if1 .left))
+
+returns-2 : tie.Need-returns-2 Inv-loop μ-loop
+returns-2 c = 
+    let x = c .before .before .args in
+    sym (c .before .loop .inv ∙ all-end (sameAt (x .a .now) (x .at) (x .b .now) (x .bt)) 30 (c .before .loop .k) (c .loop-test .left))
+
+pub same-name-spec : {M : Type 1} → statement M
+same-name-spec =
+    tie.close
+    (tie.spec
+    Inv-loop
+    μ-loop
+    loop-holds
+    add-if1
+    shared-slice-read-if1
+    add-if1-2
+    shared-slice-read-if1-2
+    returns
+    add-k
+    loop-less
+    loop-again
+    returns-2)

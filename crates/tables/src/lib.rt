@@ -1,0 +1,53 @@
+// The loader of 01, "Tables" and "Load refusals": the verdict on the caller's bytes, and the rows, counts and ends of the tables,
+// each read where it stands. Nothing is collected. Every function's contract is an equation with the model's definition of the same name.
+mod bytes;
+mod ends;
+mod fields;
+mod layout;
+mod load;
+mod names;
+mod rows;
+
+//pub use ends::destination_count;
+//pub use ends::destination_port;
+//pub use ends::source_port;
+pub use layout::channel_count;
+pub use layout::port_count;
+pub use layout::ports_end;
+pub use layout::records;
+pub use layout::window_length;
+pub use layout::window_partition;
+pub use layout::windows;
+pub use load::judge;
+pub use names::same_name;
+pub use rows::depth;
+pub use rows::mode;
+pub use rows::port_row;
+pub use rows::refresh;
+
+// What a load says of tables. `verdictOf` of specs/Shown.antt gives the paper's number and record for each case.
+pub enum Verdict {
+    Accepted,
+    // the number of the refusal, 20 to 26, and the first offending record, counted from 0
+    Refused(u8, usize),
+}
+
+// "A port row is either sampling with its refresh period or queuing with its depth."
+pub enum Transfer {
+    // the refresh period in ticks: 1..1,000,000 at a destination, 0 at a source
+    Sampling(u32),
+    // the depth, 1..8 messages
+    Queuing(u32),
+}
+
+// A port row, decoded from its record.
+pub struct PortRow {
+    // the partition that owns the port, 0..15
+    pub owner: u8,
+    // the mode with what belongs to it
+    pub transfer: Transfer,
+    // 0 source, 1 destination
+    pub direction: u8,
+    // the largest message in bytes, 1..64
+    pub largest: u32,
+}

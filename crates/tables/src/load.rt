@@ -1,0 +1,128 @@
+// 01, "Load refusals": what is wrong with a record, the first offending record, and the verdict.
+ghost use Prim.Native.Nat.{_-_, _<_, _≤_};
+ghost use mathlib.Core.Path.{_≡_};
+ghost use mathlib.Core.Bool.{_&&_};
+ghost use lib.Dec.{ltb};
+ghost use Rattle.model.specs.Tables.{records, kind, windows, portsEnd};
+ghost use Rattle.model.specs.Load.{lengthFault, kindFault, countFault, fault, firstFault, loadOf};
+ghost use Rattle.tables.specs.Shown.{verdictOf};
+ghost use Rattle.tables.specs.Known.{Placed, FaultlessBefore};
+use super::Verdict;
+use super::bytes::wide;
+use super::ends::end_fault;
+use super::fields::between;
+use super::fields::field_fault;
+use super::layout::kind;
+use super::layout::ports_end_from;
+use super::layout::records;
+use super::layout::windows;
+use super::names::name_fault;
+
+// 20: length 0 or not a multiple of 48.
+fn length_fault(t: &[u8]) -> bool
+    ensures { λ faulty. ⌜ faulty ≡ lengthFault (now (t .entry)) ⌝ }
+{
+    t.len() == 0 || t.len() % 48 != 0
+}
+
+// The kind of record r is below that of the record before it.
+fn below_before(t: &[u8], r: usize) -> bool
+    requires { ⌜ r < records (now t) ⌝ }
+    ensures { λ below. ⌜ below ≡ (ltb 0 r && ltb (kind (now (t .entry)) r) (kind (now (t .entry)) (r - 1))) ⌝ }
+{
+    if r == 0 {
+        return false;
+    }
+    kind(t, r) < kind(t, r - 1)
+}
+
+// 21: kind not 1..3, or below the kind before.
+fn kind_fault(t: &[u8], r: usize) -> bool
+    requires { ⌜ r < records (now t) ⌝ }
+    ensures { λ faulty. ⌜ faulty ≡ kindFault (now (t .entry)) r ⌝ }
+{
+    !between(1, 3, wide(kind(t, r))) || below_before(t, r)
+}
+
+// How many records lie between a first one and r; none where r comes before it.
+fn beyond(r: usize, first: usize) -> usize
+    ensures { λ n. ⌜ n ≡ r - first ⌝ }
+{
+    if first < r { r - first } else { 0 }
+}
+
+// 22: a 65th window or port, or a 33rd channel.
+fn count_fault(t: &[u8], first_port: usize, first_channel: usize, r: usize) -> bool
+    requires { ⌜ Placed (now t) «first_port» «first_channel» r ⌝ }
+    ensures { λ faulty. ⌜ faulty ≡ countFault (now (t .entry)) r ⌝ }
+{
+    let k = kind(t, r);
+    if k == 1 {
+        return 64 <= r;
+    }
+    if k == 2 {
+        return 64 <= beyond(r, first_port);
+    }
+    32 <= beyond(r, first_channel)
+}
+
+// The number of the fault of record r, 0 where there is none. Within a record the lower number is reported.
+fn fault(t: &[u8], first_port: usize, first_channel: usize, r: usize) -> u8
+    requires { ⌜ Placed (now t) «first_port» «first_channel» r ⌝ }
+    requires { ⌜ FaultlessBefore (now t) r ⌝ }
+    ensures { λ number. ⌜ number ≡ fault (now (t .entry)) r ⌝ }
+{
+    if kind_fault(t, r) {
+        return 21;
+    }
+    if count_fault(t, first_port, first_channel, r) {
+        return 22;
+    }
+    if field_fault(t, r) {
+        return 23;
+    }
+    if name_fault(t, first_port, r) {
+        return 24;
+    }
+    if end_fault(t, first_port, first_channel, r) {
+        return 25;
+    }
+    0
+}
+
+// The first offending record, or the number of records.
+fn first_fault(t: &[u8], first_port: usize, first_channel: usize) -> usize
+    requires { ⌜ «first_port» ≡ windows (now t) ⌝ }
+    requires { ⌜ «first_channel» ≡ portsEnd (now t) ⌝ }
+    ensures { λ r. ⌜ r ≡ firstFault (now (t .entry)) ⌝ }
+{
+    let end = records(t);
+    let mut r = 0;
+    while r < end {
+        if fault(t, first_port, first_channel, r) != 0 {
+            return r;
+        }
+        r += 1;
+    }
+    r
+}
+
+// The verdict on tables. 20 is tested first, 26, no window at all, last.
+pub fn judge(t: &[u8]) -> Verdict
+    ensures { λ verdict. ⌜ verdictOf verdict ≡ loadOf (now (t .entry)) ⌝ }
+{
+    if length_fault(t) {
+        return Verdict::Refused(20, 0);
+    }
+    let first_port = windows(t);
+    let first_channel = ports_end_from(t, first_port);
+    let end = records(t);
+    let r = first_fault(t, first_port, first_channel);
+    if r < end {
+        return Verdict::Refused(fault(t, first_port, first_channel, r), r);
+    }
+    if first_port == 0 {
+        return Verdict::Refused(26, end);
+    }
+    Verdict::Accepted
+}

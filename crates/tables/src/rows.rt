@@ -1,0 +1,63 @@
+// Port rows, decoded from their records where they are wanted.
+ghost use Prim.Native.Nat.{_<_};
+ghost use mathlib.Core.Path.{_≡_};
+ghost use Rattle.model.specs.Tables.{records, rowAt};
+ghost use Rattle.tables.specs.Shown.{modeOf, depthOf, refreshOf, transferOf, decoded};
+use super::PortRow;
+use super::Transfer;
+use super::bytes::word32;
+
+// The row in record r. A mode other than 0, which 23 refuses where it isn't 1, is taken for queuing.
+pub fn port_row(t: &[u8], r: usize) -> PortRow
+    requires { ⌜ r < records (now t) ⌝ }
+    ensures { λ row. ⌜ row ≡ decoded (rowAt (now (t .entry)) r) ⌝ }
+{
+    let at = 48 * r;
+    let transfer = transfer_of(t[at + 2], word32(t, at + 8), word32(t, at + 12));
+    PortRow {
+        owner: t[at + 1],
+        transfer,
+        direction: t[at + 3],
+        largest: word32(t, at + 4),
+    }
+}
+
+fn transfer_of(mode: u8, depth: u32, refresh: u32) -> Transfer
+    ensures { λ r. ⌜ r ≡ transferOf mode depth refresh ⌝ }
+{
+    if mode == 0 {
+        Transfer::Sampling(refresh)
+    } else {
+        Transfer::Queuing(depth)
+    }
+}
+
+// 0 sampling, 1 queuing.
+pub fn mode(transfer: Transfer) -> u8
+    ensures { λ r. ⌜ r ≡ modeOf transfer ⌝ }
+{
+    match transfer {
+        Transfer::Sampling(_) => 0,
+        Transfer::Queuing(_) => 1,
+    }
+}
+
+// How many messages a queuing port keeps; 0 for a sampling port, as in its row.
+pub fn depth(transfer: Transfer) -> u32
+    ensures { λ r. ⌜ r ≡ depthOf transfer ⌝ }
+{
+    match transfer {
+        Transfer::Sampling(_) => 0,
+        Transfer::Queuing(messages) => messages,
+    }
+}
+
+// The refresh period of a sampling port; 0 for a queuing port, as in its row.
+pub fn refresh(transfer: Transfer) -> u32
+    ensures { λ r. ⌜ r ≡ refreshOf transfer ⌝ }
+{
+    match transfer {
+        Transfer::Sampling(period) => period,
+        Transfer::Queuing(_) => 0,
+    }
+}
