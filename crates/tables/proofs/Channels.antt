@@ -132,6 +132,7 @@ past-ports t r k e no-window no-port = at (ltb r (portsEnd t)) refl
     before : (b : Bool) → ltb r (windows t) ≡ b → r < portsEnd t → ⊥
     before true h l = no-window (e ∙ window-kind t r (ltb-true _ _ h))
     before false h l = no-port (e ∙ port-kind t r (ltb-false _ _ h) l)
+
     at : (b : Bool) → ltb r (portsEnd t) ≡ b → portsEnd t ≤ r
     at true h = absurd (before (ltb r (windows t)) refl (ltb-true _ _ h))
     at false h = ltb-false _ _ h

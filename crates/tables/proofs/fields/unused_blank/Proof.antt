@@ -50,7 +50,7 @@ word16-requires : tie.Need-word16-requires Inv-loop μ-loop
 word16-requires c κs = search needs
 
 returns : tie.Need-returns Inv-loop μ-loop
-returns c = 
+returns c =
     let t = c .before .before .before .before .before .args in
     let at = c .before .before .before .loop in
     sym (at .inv ∙ all-stop (isUnused (t .t .now) (t .r)) 9 (at .j) (c .before .before .loop-test .taken) (ne-eqb _ _ (λ e. c .if1 .taken (c .before .word16 .ensures ∙ e))))
@@ -62,13 +62,13 @@ loop-less : tie.Need-loop-less Inv-loop μ-loop
 loop-less c = search needs
 
 loop-again : tie.Need-loop-again Inv-loop μ-loop
-loop-again c = 
+loop-again c =
     let t = c .before .before .before .before .before .args in
     let at = c .before .before .before .loop in
     at .inv ∙ all-more (isUnused (t .t .now) (t .r)) 9 (at .j) (c .before .before .loop-test .taken) (eq-eqb _ _ (sym (c .before .word16 .ensures) ∙ c .if1 .left))
 
 returns-2 : tie.Need-returns-2 Inv-loop μ-loop
-returns-2 c = 
+returns-2 c =
     let t = c .before .before .before .args in
     let at = c .before .loop in
     sym (at .inv ∙ all-end (isUnused (t .t .now) (t .r)) 9 (at .j) (c .loop-test .left))
