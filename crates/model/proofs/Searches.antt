@@ -70,6 +70,7 @@ first-passed p (suc n) k q low high = here (p k) refl high (first-passed p n (su
     at false e f on =
         let same : k ≡ q = omega (arith, ltb-false k q e) in
         rw same at f
+
     here : (b : Bool) → p k ≡ b → q < (if b then k else first p n (suc k)) → (suc k ≤ q → q < first p n (suc k) → p q ≡ false) → p q ≡ false
     here true e h on = absurd (omega arith)
     here false e h on = at (ltb k q) refl e (λ l. on l h)

@@ -63,14 +63,12 @@ fn source_fits(t: &[u8], first_port: usize, first_channel: usize, r: usize) -> b
 
 // A row is that of a destination, of its source's mode, for messages as large as the source's.
 fn takes_from(row: PortRow, source: PortRow) -> bool
-    ensures {
-        λ r.
+    ensures { λ r.
         ⌜
-          r
-          ≡ (eqb (row .direction) destination && eqb (modeOf (row .transfer)) (modeOf (source .transfer))
-          && leb (source .largest) (row .largest))
-        ⌝
-    }
+        r
+        ≡ (eqb (row .direction) destination && eqb (modeOf (row .transfer)) (modeOf (source .transfer))
+        && leb (source .largest) (row .largest))
+        ⌝ }
 {
     if row.direction != 1 {
         return false;
@@ -84,7 +82,14 @@ fn takes_from(row: PortRow, source: PortRow) -> bool
 }
 
 // End j, a destination: an id with a row, which takes from the source's row.
-fn destination_fits(t: &[u8], first_port: usize, first_channel: usize, r: usize, source: PortRow, j: usize) -> bool
+fn destination_fits(
+    t: &[u8],
+    first_port: usize,
+    first_channel: usize,
+    r: usize,
+    source: PortRow,
+    j: usize,
+) -> bool
     requires { ⌜ Placed (now t) «first_port» «first_channel» r ⌝ }
     requires { ⌜ SourceRow (now t) r source ⌝ }
     requires { ⌜ ModesFit (now t) ⌝ }
@@ -98,7 +103,13 @@ fn destination_fits(t: &[u8], first_port: usize, first_channel: usize, r: usize,
     takes_from(id_row(t, first_port, id), source)
 }
 
-fn destinations_fit(t: &[u8], first_port: usize, first_channel: usize, r: usize, source: PortRow) -> bool
+fn destinations_fit(
+    t: &[u8],
+    first_port: usize,
+    first_channel: usize,
+    r: usize,
+    source: PortRow,
+) -> bool
     requires { ⌜ Placed (now t) «first_port» «first_channel» r ⌝ }
     requires { ⌜ SourceRow (now t) r source ⌝ }
     requires { ⌜ ModesFit (now t) ⌝ }

@@ -9,8 +9,8 @@ ghost use Rattle.model.specs.Load.{windowFits, rowFits, portFits, channelFits, 
 ghost use Rattle.tables.specs.Pieces.{unusedBlank};
 use super::bytes::blank;
 use super::bytes::wide;
-use super::bytes::word16;
 use super::bytes::word32;
+use super::channels::id_at;
 use super::layout::kind;
 use super::layout::window_length;
 use super::layout::window_partition;
@@ -45,7 +45,11 @@ fn window_fits(t: &[u8], r: usize) -> bool
 fn depth_fits(mode: u8, depth: u32) -> bool
     ensures { λ r. ⌜ r ≡ (if eqb mode queuing then between 1 8 depth else eqb depth 0) ⌝ }
 {
-    if mode == 1 { between(1, 8, depth) } else { depth == 0 }
+    if mode == 1 {
+        between(1, 8, depth)
+    } else {
+        depth == 0
+    }
 }
 
 fn is_sampling_destination(mode: u8, direction: u8) -> bool
@@ -56,13 +60,11 @@ fn is_sampling_destination(mode: u8, direction: u8) -> bool
 
 // 1..1,000,000 for a sampling destination, else 0.
 fn refresh_fits(mode: u8, direction: u8, refresh: u32) -> bool
-    ensures {
-        λ r.
+    ensures { λ r.
         ⌜
-          r
-          ≡ (if eqb mode sampling && eqb direction destination then between 1 1_000_000 refresh else eqb refresh 0)
-        ⌝
-    }
+        r
+        ≡ (if eqb mode sampling && eqb direction destination then between 1 1_000_000 refresh else eqb refresh 0)
+        ⌝ }
 {
     if is_sampling_destination(mode, direction) {
         between(1, 1_000_000, refresh)
@@ -110,7 +112,7 @@ fn unused_blank(t: &[u8], r: usize, count: u8) -> bool
 {
     let mut j = count as usize + 1;
     while j < 9 {
-        if word16(t, 48 * r + 2 + 2 * j) != 0 {
+        if id_at(t, r, j) != 0 {
             return false;
         }
         j += 1;

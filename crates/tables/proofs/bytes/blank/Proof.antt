@@ -33,7 +33,7 @@ shared-slice-read-if1 : tie.Need-shared-slice-read-if1 Inv-loop μ-loop
 shared-slice-read-if1 c = search needs
 
 returns : tie.Need-returns Inv-loop μ-loop
-returns c = 
+returns c =
     let t = c .before .before .before .before .args .t .now in
     let at = c .before .before .before .loop in
     sym (at .inv .1 ∙ all-stop (isZero t) _ (at .k) (c .before .before .loop-test .taken) (ne-eqb _ _ (c .if1 .taken)))
@@ -45,13 +45,13 @@ loop-less : tie.Need-loop-less Inv-loop μ-loop
 loop-less c = search needs
 
 loop-again : tie.Need-loop-again Inv-loop μ-loop
-loop-again c = 
+loop-again c =
     let t = c .before .before .before .before .args .t .now in
     let at = c .before .before .before .loop in
     (omega arith, at .inv .1 ∙ all-more (isZero t) _ (at .k) (c .before .before .loop-test .taken) (eq-eqb _ _ (c .if1 .left)))
 
 returns-2 : tie.Need-returns-2 Inv-loop μ-loop
-returns-2 c = 
+returns-2 c =
     let t = c .before .before .args .t .now in
     let at = c .before .loop in
     sym (at .inv .1 ∙ all-end (isZero t) _ (at .k) (c .loop-test .left))

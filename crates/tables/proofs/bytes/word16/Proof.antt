@@ -25,7 +25,7 @@ mul-result : tie.Need-mul-result
 mul-result c = omega (arith, c .before .shared-slice-known3 .given (c .before .before .before .before .before .args .at + 1))
 
 add-result : tie.Need-add-result
-add-result c = 
+add-result c =
     let at = c .before .before .before .before .before .args .at in
     omega (arith, c .before .shared-slice-known3 .given at, c .before .shared-slice-known3 .given (at + 1))
 

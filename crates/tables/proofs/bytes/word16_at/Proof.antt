@@ -32,7 +32,7 @@ returns : tie.Need-returns
 returns c = search needs
 
 returns-2 : tie.Need-returns-2
-returns-2 c = 
+returns-2 c =
     let t = c .before .before .args .t .now in
     let at = c .before .before .args .at in
     omega (arith, List·getD-eq-default t 0 {n = at} (omega arith), List·getD-eq-default t 0 {n = at + 1} (omega arith))

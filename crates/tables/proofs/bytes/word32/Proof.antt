@@ -16,13 +16,13 @@ word16-requires-2 : tie.Need-word16-requires-2
 word16-requires-2 c κs = search needs
 
 mul-result : tie.Need-mul-result
-mul-result c = 
+mul-result c =
     let at = c .before .before .before .args .at in
     let bytes = c .before .before .shared-slice-known .given in
     omega (arith, bytes (at + 2), bytes (at + 2 + 1))
 
 add-result : tie.Need-add-result
-add-result c = 
+add-result c =
     let at = c .before .before .before .args .at in
     let bytes = c .before .before .shared-slice-known .given in
     omega (arith, bytes at, bytes (at + 1), bytes (at + 2), bytes (at + 2 + 1))

@@ -7,7 +7,7 @@ use mathlib.Core.Path.{ap, sym, _∙_}
 use mathlib.Core.Bool.{not}
 use Rattle.model.specs.Load.{channelEndsFit}
 use Rattle.tables.proofs.Answers.{fails, holds}
-use Rattle.tables.proofs.Channels.{source-rowed, source-row, count-of}
+use Rattle.tables.proofs.ChannelEnds.{source-rowed, source-row, count-of}
 
 source-fits-requires : tie.Need-source-fits-requires
 source-fits-requires c κs = search needs
@@ -20,19 +20,19 @@ end-at-requires : tie.Need-end-at-requires
 end-at-requires c κs = search needs
 
 id-row-requires : tie.Need-id-row-requires
-id-row-requires c κs = 
+id-row-requires c κs =
     let source = c .before .before .source-fits .ensures in
     (c .before .before .before .before .pre .0 .ported, rw (c .end-at .ensures) (source-rowed _ _ (holds source (c .before .if1 .left))))
 
 destinations-fit-requires : tie.Need-destinations-fit-requires
-destinations-fit-requires c κs = 
+destinations-fit-requires c κs =
     let one = c .before .before in
     let given = one .before .before .before .pre in
     (given .0, (source-row (holds (one .before .source-fits .ensures) (one .if1 .left)) (c .before .end-at .ensures) (c .id-row .ensures), given .1))
 
 returns-2 : tie.Need-returns-2
 unfolding channelEndsFit
-returns-2 c = 
+returns-2 c =
     let one = c .before .before .before .before in
     rw (holds (one .before .source-fits .ensures) (one .if1 .left), fails (c .before .destinations-fit .ensures) (c .if2 .taken))
 
@@ -50,7 +50,7 @@ count-fits-requires c κs = search needs
 
 returns-3 : tie.Need-returns-3
 unfolding channelEndsFit
-returns-3 c = 
+returns-3 c =
     let two = c .before .before .before in
     let one = two .before .before .before .before in
     let given = one .before .before .before in
@@ -64,7 +64,7 @@ named-again-requires c κs = search needs
 
 returns-4 : tie.Need-returns-4
 unfolding channelEndsFit
-returns-4 c = 
+returns-4 c =
     let three = c .before in
     let two = three .before .before .before in
     let one = two .before .before .before .before in

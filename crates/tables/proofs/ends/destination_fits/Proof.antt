@@ -10,7 +10,7 @@ use Rattle.model.specs.Load.{idRow, endFits}
 use Rattle.tables.specs.Shown.{decoded}
 use Rattle.tables.proofs.Answers.{fails, holds}
 use Rattle.tables.proofs.Places.{ports-after}
-use Rattle.tables.proofs.Channels.{has-row, destination-end}
+use Rattle.tables.proofs.ChannelEnds.{has-row, destination-end}
 
 end-at-requires : tie.Need-end-at-requires
 end-at-requires c κs = search needs
@@ -23,12 +23,12 @@ is-port-requires c κs = search needs
 
 returns : tie.Need-returns
 unfolding endFits
-returns c = 
+returns c =
     let test = has-row (c .before .before .before .before .pre .0) (c .before .before .end-at .ensures) (c .before .is-port .ensures) in
     rw (fails test (c .if1 .taken))
 
 id-row-requires : tie.Need-id-row-requires
-id-row-requires c κs = 
+id-row-requires c κs =
     let placed = c .before .before .before .before .pre .0 in
     (placed .ported, holds (has-row {id = c .before .before .end-at .result} placed refl (c .before .is-port .ensures)) (c .if1 .left))
 
@@ -36,7 +36,7 @@ takes-from-requires : tie.Need-takes-from-requires
 takes-from-requires c κs = search needs
 
 returns-2 : tie.Need-returns-2
-returns-2 c = 
+returns-2 c =
     let tested = c .before .before in
     let end = tested .before .before in
     let given = end .before .before in

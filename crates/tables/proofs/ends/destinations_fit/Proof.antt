@@ -29,14 +29,14 @@ loop-holds : tie.Need-loop-holds Inv-loop μ-loop
 loop-holds c = (omega arith, c .end-count .ensures, rw (rest _ _ (c .end-count .ensures)))
 
 destination-fits-requires : tie.Need-destination-fits-requires Inv-loop μ-loop
-destination-fits-requires c κs = 
+destination-fits-requires c κs =
     let at = c .before .loop in
     let given = c .before .before .before .before in
     let bytes = c .before .before .before .shared-slice-known .given in
     (given .pre .0, (given .pre .1 .0, (given .pre .1 .1, omega (arith, at .inv .0, at .inv .1, bytes (48 * given .args .r + 1)))))
 
 returns : tie.Need-returns Inv-loop μ-loop
-returns c = 
+returns c =
     let given = c .before .before .before .before .before .before .args in
     let at = c .before .before .before .loop in
     let test = fails (c .before .destination-fits .ensures) (c .if1 .taken) in
@@ -49,14 +49,14 @@ loop-less : tie.Need-loop-less Inv-loop μ-loop
 loop-less c = search needs
 
 loop-again : tie.Need-loop-again Inv-loop μ-loop
-loop-again c = 
+loop-again c =
     let given = c .before .before .before .before .before .before .args in
     let at = c .before .before .before .loop in
     let test = holds (c .before .destination-fits .ensures) (c .if1 .left) in
     (omega arith, at .inv .1, at .inv .2 ∙ all-more (endFits (given .t .now) (given .r)) _ (at .j) (c .before .before .loop-test .taken) test)
 
 returns-2 : tie.Need-returns-2 Inv-loop μ-loop
-returns-2 c = 
+returns-2 c =
     let given = c .before .before .before .before .args in
     sym (c .before .loop .inv .2 ∙ all-end (endFits (given .t .now) (given .r)) _ (c .before .loop .j) (c .loop-test .left))
 

@@ -7,7 +7,7 @@ use mathlib.Core.Path.{ap}
 use mathlib.Core.Bool.{not}
 use borrow.Author.Tests.{ne-eqb}
 use Rattle.model.specs.Load.{endFault}
-use Rattle.tables.proofs.Channels.{past-ports, modes-fit}
+use Rattle.tables.proofs.ChannelEnds.{past-ports, modes-fit}
 
 kind-requires : tie.Need-kind-requires
 kind-requires c κs = search needs
@@ -21,14 +21,14 @@ unfolding endFault
 returns-2 c = rw (← c .before .before .kind .ensures, c .if2 .taken)
 
 channel-ends-fit-requires : tie.Need-channel-ends-fit-requires
-channel-ends-fit-requires c κs = 
+channel-ends-fit-requires c κs =
     let given = c .before .before .before .before in
     let past = past-ports _ _ _ (c .before .before .kind .ensures) (c .before .if1 .left) (c .if2 .left) in
     (given .pre .0, modes-fit _ _ past (given .pre .1))
 
 returns-3 : tie.Need-returns-3
 unfolding endFault
-returns-3 c = 
+returns-3 c =
     rw (← c .before .before .before .kind .ensures, ne-eqb _ 1 (c .before .before .if1 .left), ne-eqb _ 2 (c .before .if2 .left))
     (ap not (c .channel-ends-fit .ensures))
 

@@ -25,13 +25,13 @@ loop-holds : tie.Need-loop-holds Inv-loop μ-loop
 loop-holds c = (c .end-count .ensures, rw (sub-zero, c .end-count .ensures))
 
 named-before-requires : tie.Need-named-before-requires Inv-loop μ-loop
-named-before-requires c κs = 
+named-before-requires c κs =
     let given = c .before .before .before .before in
     let bytes = c .before .before .before .shared-slice-known .given in
     (given .pre .0, omega (arith, c .before .loop .inv .0, bytes (48 * given .args .r + 1)))
 
 returns : tie.Need-returns Inv-loop μ-loop
-returns c = 
+returns c =
     let x = c .before .before .before .before .before .before .args in
     let at = c .before .before .before .loop in
     let test = sym (c .before .named-before .ensures) ∙ c .if1 .taken in
@@ -44,14 +44,14 @@ loop-less : tie.Need-loop-less Inv-loop μ-loop
 loop-less c = search needs
 
 loop-again : tie.Need-loop-again Inv-loop μ-loop
-loop-again c = 
+loop-again c =
     let x = c .before .before .before .before .before .before .args in
     let at = c .before .before .before .loop in
     let test = sym (c .before .named-before .ensures) ∙ c .if1 .left in
     (at .inv .0, at .inv .1 ∙ any-more (namedBefore (x .t .now) (x .r)) _ (at .j) (c .before .before .loop-test .taken) test)
 
 returns-2 : tie.Need-returns-2 Inv-loop μ-loop
-returns-2 c = 
+returns-2 c =
     let x = c .before .before .before .before .args in
     sym (c .before .loop .inv .1 ∙ any-end (namedBefore (x .t .now) (x .r)) _ (c .before .loop .j) (c .loop-test .left))
 

@@ -31,7 +31,7 @@ end-at-requires : tie.Need-end-at-requires Inv-loop μ-loop
 end-at-requires c κs = search needs
 
 returns : tie.Need-returns Inv-loop μ-loop
-returns c = 
+returns c =
     let x = c .before .before .before .before .before .args in
     let at = c .before .before .before .loop in
     let test = eq-eqb _ _ (sym (c .before .end-at .ensures) ∙ c .if1 .taken) in
@@ -44,14 +44,14 @@ loop-less : tie.Need-loop-less Inv-loop μ-loop
 loop-less c = search needs
 
 loop-again : tie.Need-loop-again Inv-loop μ-loop
-loop-again c = 
+loop-again c =
     let x = c .before .before .before .before .before .args in
     let at = c .before .before .before .loop in
     let test = ne-eqb _ _ (λ e. c .if1 .left (c .before .end-at .ensures ∙ e)) in
     at .inv ∙ any-more (isEnd (x .t .now) (x .id) (x .q)) (x .n) (at .i) (c .before .before .loop-test .taken) test
 
 returns-2 : tie.Need-returns-2 Inv-loop μ-loop
-returns-2 c = 
+returns-2 c =
     let x = c .before .before .before .args in
     sym (c .before .loop .inv ∙ any-end (isEnd (x .t .now) (x .id) (x .q)) (x .n) (c .before .loop .i) (c .loop-test .left))
 

@@ -21,7 +21,7 @@ returns c = rw (← c .before .before .end-at .ensures, sym (c .before .named-am
 
 returns-2 : tie.Need-returns-2
 unfolding namedBefore
-returns-2 c = 
+returns-2 c =
     let one = c .before in
     rw (← one .before .before .end-at .ensures, sym (one .before .named-among .ensures) ∙ one .if1 .left) (c .named-in-earlier .ensures)
 

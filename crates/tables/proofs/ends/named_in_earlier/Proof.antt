@@ -29,12 +29,12 @@ end-count-requires : tie.Need-end-count-requires Inv-loop μ-loop
 end-count-requires c κs = search needs
 
 named-among-requires : tie.Need-named-among-requires Inv-loop μ-loop
-named-among-requires c κs = 
+named-among-requires c κs =
     let bytes = c .before .before .before .shared-slice-known .given in
     omega (arith, c .end-count .ensures, bytes (48 * c .before .before .loop .q + 1))
 
 returns : tie.Need-returns Inv-loop μ-loop
-returns c = 
+returns c =
     let x = c .before .before .before .before .before .before .args in
     let at = c .before .before .before .before .loop in
     let named = c .before .named-among .ensures ∙ ap (λ (n : ℕ). namedAmong (x .t .now) (x .id) n (at .q)) (c .before .before .end-count .ensures) in
@@ -47,14 +47,14 @@ loop-less : tie.Need-loop-less Inv-loop μ-loop
 loop-less c = search needs
 
 loop-again : tie.Need-loop-again Inv-loop μ-loop
-loop-again c = 
+loop-again c =
     let x = c .before .before .before .before .before .before .args in
     let at = c .before .before .before .before .loop in
     let named = c .before .named-among .ensures ∙ ap (λ (n : ℕ). namedAmong (x .t .now) (x .id) n (at .q)) (c .before .before .end-count .ensures) in
     at .inv ∙ any-more (names (x .t .now) (x .id)) (x .r) (at .q) (c .before .before .before .loop-test .taken) (sym named ∙ c .if1 .left)
 
 returns-2 : tie.Need-returns-2 Inv-loop μ-loop
-returns-2 c = 
+returns-2 c =
     let x = c .before .before .before .args in
     sym (c .before .loop .inv ∙ any-end (names (x .t .now) (x .id)) (x .r) (c .before .loop .q) (c .loop-test .left))
 

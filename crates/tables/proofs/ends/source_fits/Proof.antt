@@ -12,7 +12,7 @@ use Rattle.tables.specs.Shown.{decoded}
 use Rattle.tables.specs.declared.PortRow.{PortRow}
 use Rattle.tables.proofs.Answers.{fails, holds}
 use Rattle.tables.proofs.Places.{ports-after}
-use Rattle.tables.proofs.Channels.{has-row, source-end}
+use Rattle.tables.proofs.ChannelEnds.{has-row, source-end}
 
 end-at-requires : tie.Need-end-at-requires
 end-at-requires c κs = search needs
@@ -24,17 +24,17 @@ is-port-requires : tie.Need-is-port-requires
 is-port-requires c κs = search needs
 
 returns : tie.Need-returns
-returns c = 
+returns c =
     let test = has-row (c .before .before .before .before .pre) (c .before .before .end-at .ensures) (c .before .is-port .ensures) in
     rw (source-end, fails test (c .if1 .taken))
 
 id-row-requires : tie.Need-id-row-requires
-id-row-requires c κs = 
+id-row-requires c κs =
     let placed = c .before .before .before .before .pre in
     (placed .ported, holds (has-row {id = c .before .before .end-at .result} placed refl (c .before .is-port .ensures)) (c .if1 .left))
 
 returns-2 : tie.Need-returns-2
-returns-2 c = 
+returns-2 c =
     let tested = c .before .before in
     let end = tested .before .before in
     let t = end .before .before .args .t .now in

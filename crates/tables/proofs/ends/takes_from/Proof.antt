@@ -19,7 +19,7 @@ returns-2 : tie.Need-returns-2
 returns-2 c = rw (eq-eqb _ 1 (c .before .before .before .if1 .left), ← c .before .before .mode .ensures, ← c .before .mode2 .ensures, ne-eqb _ _ (c .if2 .taken))
 
 returns-3 : tie.Need-returns-3
-returns-3 c = 
+returns-3 c =
     let two = c .before .before in
     rw (eq-eqb _ 1 (two .before .before .before .if1 .left), ← two .before .before .mode .ensures, ← two .before .mode2 .ensures, eq-eqb _ _ (two .if2 .left))
 

@@ -32,11 +32,12 @@ unused-blank-requires c κs = search needs
 
 returns-2 : tie.Need-returns-2
 unfolding channelFits
-returns-2 c = 
+returns-2 c =
     let one = c .before .before in
-    rw
-    (holds (one .before .between .ensures ∙ ap (between 1 8) (one .before .before .wide .ensures)) (one .if1 .left),
-     fails (c .before .unused-blank .ensures) (c .if2 .taken))
+    rw (
+      holds (one .before .between .ensures ∙ ap (between 1 8) (one .before .before .wide .ensures)) (one .if1 .left),
+      fails (c .before .unused-blank .ensures) (c .if2 .taken),
+    )
 
 mul-blank : tie.Need-mul-blank
 mul-blank c = search needs
@@ -49,12 +50,13 @@ blank-requires c κs = search needs
 
 returns-3 : tie.Need-returns-3
 unfolding channelFits
-returns-3 c = 
+returns-3 c =
     let two = c .before in
     let one = two .before .before in
-    rw
-    (holds (one .before .between .ensures ∙ ap (between 1 8) (one .before .before .wide .ensures)) (one .if1 .left),
-     holds (two .before .unused-blank .ensures) (two .if2 .left))
+    rw (
+      holds (one .before .between .ensures ∙ ap (between 1 8) (one .before .before .wide .ensures)) (one .if1 .left),
+      holds (two .before .unused-blank .ensures) (two .if2 .left),
+    )
     (c .blank .ensures)
 
 pub channel-fits-spec : {M : Type 1} → statement M

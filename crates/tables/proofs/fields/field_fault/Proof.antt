@@ -23,7 +23,7 @@ port-fits-requires c κs = search needs
 
 returns-2 : tie.Need-returns-2
 unfolding fieldFault
-returns-2 c = 
+returns-2 c =
     let one = c .before .before in
     rw (← one .before .kind .ensures, ne-eqb _ 1 (one .if1 .left), eq-eqb _ 2 (c .before .if2 .taken)) (ap not (c .port-fits .ensures))
 
@@ -32,7 +32,7 @@ channel-fits-requires c κs = search needs
 
 returns-3 : tie.Need-returns-3
 unfolding fieldFault
-returns-3 c = 
+returns-3 c =
     let one = c .before .before in
     rw (← one .before .kind .ensures, ne-eqb _ 1 (one .if1 .left), ne-eqb _ 2 (c .before .if2 .left)) (ap not (c .channel-fits .ensures))
 

@@ -52,11 +52,15 @@ between-requires c κs = search needs
 
 returns-4 : tie.Need-returns-4
 unfolding rowFits rowAt
-returns-4 c = 
+returns-4 c =
     let three = c .before .before .before in
-    rw
-    (le-leb _ _ (three .before .before .if1 .left), le-leb _ _ (three .before .if2 .left), le-leb _ _ (three .if3 .left),
-     ← c .before .before .word32 .ensures, fails (c .before .between .ensures) (c .if4 .taken))
+    rw (
+      le-leb _ _ (three .before .before .if1 .left),
+      le-leb _ _ (three .before .if2 .left),
+      le-leb _ _ (three .if3 .left),
+      ← c .before .before .word32 .ensures,
+      fails (c .before .between .ensures) (c .if4 .taken),
+    )
 
 add-word32-2 : tie.Need-add-word32-2
 add-word32-2 c = search needs
@@ -69,13 +73,18 @@ depth-fits-requires c κs = search needs
 
 returns-5 : tie.Need-returns-5
 unfolding rowFits rowAt
-returns-5 c = 
+returns-5 c =
     let four = c .before .before .before in
     let three = four .before .before .before in
-    rw
-    (le-leb _ _ (three .before .before .if1 .left), le-leb _ _ (three .before .if2 .left), le-leb _ _ (three .if3 .left),
-     ← four .before .before .word32 .ensures, holds (four .before .between .ensures) (four .if4 .left),
-     ← c .before .before .word322 .ensures, fails (c .before .depth-fits .ensures) (c .if5 .taken))
+    rw (
+      le-leb _ _ (three .before .before .if1 .left),
+      le-leb _ _ (three .before .if2 .left),
+      le-leb _ _ (three .if3 .left),
+      ← four .before .before .word32 .ensures,
+      holds (four .before .between .ensures) (four .if4 .left),
+      ← c .before .before .word322 .ensures,
+      fails (c .before .depth-fits .ensures) (c .if5 .taken),
+    )
 
 add-word32-3 : tie.Need-add-word32-3
 add-word32-3 c = search needs
@@ -88,15 +97,20 @@ refresh-fits-requires c κs = search needs
 
 returns-6 : tie.Need-returns-6
 unfolding rowFits rowAt
-returns-6 c = 
+returns-6 c =
     let five = c .before .before in
     let four = five .before .before .before in
     let three = four .before .before .before in
-    rw
-    (le-leb _ _ (three .before .before .if1 .left), le-leb _ _ (three .before .if2 .left), le-leb _ _ (three .if3 .left),
-     ← four .before .before .word32 .ensures, holds (four .before .between .ensures) (four .if4 .left),
-     ← five .before .before .word322 .ensures, holds (five .before .depth-fits .ensures) (five .if5 .left),
-     ← c .before .word323 .ensures)
+    rw (
+      le-leb _ _ (three .before .before .if1 .left),
+      le-leb _ _ (three .before .if2 .left),
+      le-leb _ _ (three .if3 .left),
+      ← four .before .before .word32 .ensures,
+      holds (four .before .between .ensures) (four .if4 .left),
+      ← five .before .before .word322 .ensures,
+      holds (five .before .depth-fits .ensures) (five .if5 .left),
+      ← c .before .word323 .ensures,
+    )
     (c .refresh-fits .ensures)
 
 pub row-fits-spec : {M : Type 1} → statement M

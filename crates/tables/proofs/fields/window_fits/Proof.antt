@@ -24,11 +24,14 @@ between-requires c κs = search needs
 
 returns-2 : tie.Need-returns-2
 unfolding windowFits
-returns-2 c = 
+returns-2 c =
     let one = c .before .before .before in
-    rw
-    (← one .before .before .window-partition .ensures, holds (one .before .partition-fits .ensures) (one .if1 .left),
-     ← c .before .before .window-length .ensures, fails (c .before .between .ensures) (c .if2 .taken))
+    rw (
+      ← one .before .before .window-partition .ensures,
+      holds (one .before .partition-fits .ensures) (one .if1 .left),
+      ← c .before .before .window-length .ensures,
+      fails (c .before .between .ensures) (c .if2 .taken),
+    )
 
 mul-blank : tie.Need-mul-blank
 mul-blank c = search needs
@@ -41,12 +44,15 @@ blank-requires c κs = search needs
 
 returns-3 : tie.Need-returns-3
 unfolding windowFits
-returns-3 c = 
+returns-3 c =
     let two = c .before in
     let one = two .before .before .before in
-    rw
-    (← one .before .before .window-partition .ensures, holds (one .before .partition-fits .ensures) (one .if1 .left),
-     ← two .before .before .window-length .ensures, holds (two .before .between .ensures) (two .if2 .left))
+    rw (
+      ← one .before .before .window-partition .ensures,
+      holds (one .before .partition-fits .ensures) (one .if1 .left),
+      ← two .before .before .window-length .ensures,
+      holds (two .before .between .ensures) (two .if2 .left),
+    )
     (c .blank .ensures)
 
 pub window-fits-spec : {M : Type 1} → statement M

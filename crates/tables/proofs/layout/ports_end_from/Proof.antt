@@ -21,7 +21,7 @@ records-requires : tie.Need-records-requires Inv-loop μ-loop
 records-requires c κs = search needs
 
 loop-holds : tie.Need-loop-holds Inv-loop μ-loop
-loop-holds c = 
+loop-holds c =
     let t = c .before .before .args .t .now in
     (omega (arith, windows-within t), c .records .ensures, ports-whole t _ _ (c .records .ensures) (c .before .before .pre))
 
@@ -29,7 +29,7 @@ kind-requires : tie.Need-kind-requires Inv-loop μ-loop
 kind-requires c κs = search needs
 
 returns : tie.Need-returns Inv-loop μ-loop
-returns c = 
+returns c =
     let t = c .before .before .before .before .before .before .args .t .now in
     let at = c .before .before .before .loop in
     let test = is-other t 2 (at .r) _ (c .before .kind .ensures) (c .if1 .taken) in
@@ -42,14 +42,14 @@ loop-less : tie.Need-loop-less Inv-loop μ-loop
 loop-less c = search needs
 
 loop-again : tie.Need-loop-again Inv-loop μ-loop
-loop-again c = 
+loop-again c =
     let t = c .before .before .before .before .before .before .args .t .now in
     let at = c .before .before .before .loop in
     let test = is-kind t 2 (at .r) _ (c .before .kind .ensures) (c .if1 .left) in
     (omega arith, at .inv .1, at .inv .2 ∙ first-more (otherKind 2 t) _ (at .r) (c .before .before .loop-test .taken) test)
 
 returns-2 : tie.Need-returns-2 Inv-loop μ-loop
-returns-2 c = 
+returns-2 c =
     let t = c .before .before .before .before .args .t .now in
     let at = c .before .loop in
     sym (at .inv .2 ∙ first-end (otherKind 2 t) _ (at .r) (c .loop-test .left))

@@ -27,7 +27,7 @@ kind-requires : tie.Need-kind-requires Inv-loop μ-loop
 kind-requires c κs = search needs
 
 returns : tie.Need-returns Inv-loop μ-loop
-returns c = 
+returns c =
     let t = c .before .before .before .before .before .before .args .t .now in
     let at = c .before .before .before .loop in
     let test = is-other t 1 (at .r) _ (c .before .kind .ensures) (c .if1 .taken) in
@@ -40,14 +40,14 @@ loop-less : tie.Need-loop-less Inv-loop μ-loop
 loop-less c = search needs
 
 loop-again : tie.Need-loop-again Inv-loop μ-loop
-loop-again c = 
+loop-again c =
     let t = c .before .before .before .before .before .before .args .t .now in
     let at = c .before .before .before .loop in
     let test = is-kind t 1 (at .r) _ (c .before .kind .ensures) (c .if1 .left) in
     (omega arith, at .inv .1, at .inv .2 ∙ first-more (otherKind 1 t) _ (at .r) (c .before .before .loop-test .taken) test)
 
 returns-2 : tie.Need-returns-2 Inv-loop μ-loop
-returns-2 c = 
+returns-2 c =
     let t = c .before .before .before .before .args .t .now in
     let at = c .before .loop in
     sym (at .inv .2 ∙ first-end (otherKind 1 t) _ (at .r) (c .loop-test .left))

@@ -19,7 +19,7 @@ beyond-requires c κs = search needs
 
 returns-2 : tie.Need-returns-2
 unfolding countFault
-returns-2 c = 
+returns-2 c =
     let known = c .before .before .before in
     rw (← known .kind .ensures, c .before .if2 .taken, ← known .before .before .pre .ported, ← c .beyond .ensures)
 
@@ -28,11 +28,15 @@ beyond-requires-2 c κs = search needs
 
 returns-3 : tie.Need-returns-3
 unfolding countFault
-returns-3 c = 
+returns-3 c =
     let known = c .before .before .before in
-    rw
-    (← known .kind .ensures, ne-eqb _ 1 (c .before .before .if1 .left), ne-eqb _ 2 (c .before .if2 .left),
-     ← known .before .before .pre .channeled, ← c .beyond2 .ensures)
+    rw (
+      ← known .kind .ensures,
+      ne-eqb _ 1 (c .before .before .if1 .left),
+      ne-eqb _ 2 (c .before .if2 .left),
+      ← known .before .before .pre .channeled,
+      ← c .beyond2 .ensures,
+    )
 
 pub count-fault-spec : {M : Type 1} → statement M
 count-fault-spec =

@@ -25,13 +25,13 @@ loop-holds : tie.Need-loop-holds Inv-loop μ-loop
 loop-holds c = (omega arith, c .records .ensures, faults-whole _ _ (c .records .ensures))
 
 fault-requires : tie.Need-fault-requires Inv-loop μ-loop
-fault-requires c κs = 
+fault-requires c κs =
     let given = c .before .before .before .before in
     let at = c .before .loop in
     (record { ported = given .pre .0; channeled = given .pre .1; there = omega (arith, at .inv .1) }, faultless _ _ (not-past _ _ _ (at .inv .2)))
 
 returns : tie.Need-returns Inv-loop μ-loop
-returns c = 
+returns c =
     let t = c .before .before .before .before .before .before .args .t .now in
     let at = c .before .before .before .loop in
     let test = is-faulty t (at .r) _ (c .before .fault .ensures) (c .if1 .taken) in
@@ -44,14 +44,14 @@ loop-less : tie.Need-loop-less Inv-loop μ-loop
 loop-less c = search needs
 
 loop-again : tie.Need-loop-again Inv-loop μ-loop
-loop-again c = 
+loop-again c =
     let t = c .before .before .before .before .before .before .args .t .now in
     let at = c .before .before .before .loop in
     let test = is-faultless t (at .r) _ (c .before .fault .ensures) (c .if1 .left) in
     (omega arith, at .inv .1, at .inv .2 ∙ first-more (isFaulty t) _ (at .r) (c .before .before .loop-test .taken) test)
 
 returns-2 : tie.Need-returns-2 Inv-loop μ-loop
-returns-2 c = 
+returns-2 c =
     let t = c .before .before .before .before .args .t .now in
     let at = c .before .loop in
     sym (at .inv .2 ∙ first-end (isFaulty t) _ (at .r) (c .loop-test .left))

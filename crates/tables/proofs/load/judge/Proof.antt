@@ -29,45 +29,61 @@ first-fault-requires : tie.Need-first-fault-requires
 first-fault-requires c κs = search needs
 
 fault-requires : tie.Need-fault-requires
-fault-requires c κs = 
+fault-requires c κs =
     let found = c .before in
     let placed = found .before .before .before in
-    let t = placed .before .before .before .before .args .t .now in
-    (record {
-       ported = placed .windows .ensures;
-       channeled = found .before .before .ports-end-from .ensures;
-       there = omega (arith, found .before .records .ensures)
-     },
-     faultless t _ (omega (arith, found .first-fault .ensures)))
+    let t = placed .before .before .before .before .args .t .now in (
+      record {
+        ported = placed .windows .ensures;
+        channeled = found .before .before .ports-end-from .ensures;
+        there = omega (arith, found .before .records .ensures);
+      },
+      faultless t _ (omega (arith, found .first-fault .ensures)),
+    )
 
 returns-2 : tie.Need-returns-2
 unfolding loadOf
-returns-2 c = 
+returns-2 c =
     let found = c .before .before in
     let placed = found .before .before .before in
-    rw
-    (← placed .before .before .length-fault .ensures, placed .before .if1 .left,
-     ← found .first-fault .ensures, ← found .before .records .ensures, lt-ltb _ _ (c .before .if2 .taken), ← c .fault .ensures)
+    rw (
+      ← placed .before .before .length-fault .ensures,
+      placed .before .if1 .left,
+      ← found .first-fault .ensures,
+      ← found .before .records .ensures,
+      lt-ltb _ _ (c .before .if2 .taken),
+      ← c .fault .ensures,
+    )
 
 returns-3 : tie.Need-returns-3
 unfolding loadOf
-returns-3 c = 
+returns-3 c =
     let found = c .before .before in
     let placed = found .before .before .before in
-    rw
-    (← placed .before .before .length-fault .ensures, placed .before .if1 .left,
-     ← found .first-fault .ensures, ← found .before .records .ensures, le-ltb _ _ (c .before .if2 .left),
-     ← placed .windows .ensures, eq-eqb _ 0 (c .if3 .taken))
+    rw (
+      ← placed .before .before .length-fault .ensures,
+      placed .before .if1 .left,
+      ← found .first-fault .ensures,
+      ← found .before .records .ensures,
+      le-ltb _ _ (c .before .if2 .left),
+      ← placed .windows .ensures,
+      eq-eqb _ 0 (c .if3 .taken),
+    )
 
 returns-4 : tie.Need-returns-4
 unfolding loadOf
-returns-4 c = 
+returns-4 c =
     let found = c .before .before in
     let placed = found .before .before .before in
-    rw
-    (← placed .before .before .length-fault .ensures, placed .before .if1 .left,
-     ← found .first-fault .ensures, ← found .before .records .ensures, le-ltb _ _ (c .before .if2 .left),
-     ← placed .windows .ensures, ne-eqb _ 0 (c .if3 .left))
+    rw (
+      ← placed .before .before .length-fault .ensures,
+      placed .before .if1 .left,
+      ← found .first-fault .ensures,
+      ← found .before .records .ensures,
+      le-ltb _ _ (c .before .if2 .left),
+      ← placed .windows .ensures,
+      ne-eqb _ 0 (c .if3 .left),
+    )
 
 pub judge-spec : {M : Type 1} → statement M
 judge-spec =

@@ -22,13 +22,13 @@ below-before-requires c κs = search needs
 
 returns : tie.Need-returns
 unfolding kindFault
-returns c = 
+returns c =
     let test = c .before .between .ensures ∙ ap (between 1 3) (c .before .before .wide .ensures ∙ c .before .before .before .kind .ensures) in
     rw (fails test (c .if1 .taken)) (c .if1 .taken)
 
 returns-2 : tie.Need-returns-2
 unfolding kindFault
-returns-2 c = 
+returns-2 c =
     let one = c .before in
     let test = one .before .between .ensures ∙ ap (between 1 3) (one .before .before .wide .ensures ∙ one .before .before .before .kind .ensures) in
     rw (holds test (one .if1 .left)) (c .below-before .ensures)

@@ -45,7 +45,7 @@ may-follow-requires : tie.Need-may-follow-requires Inv-loop μ-loop
 may-follow-requires c κs = search needs
 
 returns : tie.Need-returns Inv-loop μ-loop
-returns c = 
+returns c =
     let given = c .before .before .before .before .before .before .before .args in
     let at = c .before .before .before .before .before .loop in
     let test = fails (rw add-one at (c .before .may-follow .ensures)) (c .if1 .taken) in
@@ -58,14 +58,14 @@ loop-less : tie.Need-loop-less Inv-loop μ-loop
 loop-less c = search needs
 
 loop-again : tie.Need-loop-again Inv-loop μ-loop
-loop-again c = 
+loop-again c =
     let given = c .before .before .before .before .before .before .before .args in
     let at = c .before .before .before .before .before .loop in
     let test = holds (rw add-one at (c .before .may-follow .ensures)) (c .if1 .left) in
     at .inv ∙ all-more (follows (given .t .now) (given .at)) 29 (at .k) (c .before .before .before .before .loop-test .taken) test
 
 returns-2 : tie.Need-returns-2 Inv-loop μ-loop
-returns-2 c = 
+returns-2 c =
     let given = c .before .before .before .args in
     sym (c .before .loop .inv ∙ all-end (follows (given .t .now) (given .at)) 29 (c .before .loop .k) (c .loop-test .left))
 

@@ -23,7 +23,7 @@ same-owner-and-name-requires : tie.Need-same-owner-and-name-requires Inv-loop μ
 same-owner-and-name-requires c κs = search needs
 
 returns : tie.Need-returns Inv-loop μ-loop
-returns c = 
+returns c =
     let given = c .before .before .before .before .before .args in
     let at = c .before .before .before .loop in
     let test = sym (c .before .same-owner-and-name .ensures) ∙ c .if1 .taken in
@@ -36,14 +36,14 @@ loop-less : tie.Need-loop-less Inv-loop μ-loop
 loop-less c = search needs
 
 loop-again : tie.Need-loop-again Inv-loop μ-loop
-loop-again c = 
+loop-again c =
     let given = c .before .before .before .before .before .args in
     let at = c .before .before .before .loop in
     let test = sym (c .before .same-owner-and-name .ensures) ∙ c .if1 .left in
     at .inv ∙ any-more (sameOwnerAndName (given .t .now) (given .r)) (given .r) (at .q) (c .before .before .loop-test .taken) test
 
 returns-2 : tie.Need-returns-2 Inv-loop μ-loop
-returns-2 c = 
+returns-2 c =
     let given = c .before .before .before .args in
     sym (c .before .loop .inv ∙ any-end (sameOwnerAndName (given .t .now) (given .r)) (given .r) (c .before .loop .q) (c .loop-test .left))
 

@@ -39,7 +39,7 @@ shared-slice-read-if1-2 : tie.Need-shared-slice-read-if1-2 Inv-loop μ-loop
 shared-slice-read-if1-2 c = search needs
 
 returns : tie.Need-returns Inv-loop μ-loop
-returns c = 
+returns c =
     let x = c .before .before .before .before .before .args in
     let at = c .before .before .before .before .loop in
     sym (at .inv ∙ all-stop (sameAt (x .a .now) (x .at) (x .b .now) (x .bt)) 30 (at .k) (c .before .before .before .loop-test .taken) (ne-eqb _ _ (c .if1 .taken)))
@@ -51,13 +51,13 @@ loop-less : tie.Need-loop-less Inv-loop μ-loop
 loop-less c = search needs
 
 loop-again : tie.Need-loop-again Inv-loop μ-loop
-loop-again c = 
+loop-again c =
     let x = c .before .before .before .before .before .args in
     let at = c .before .before .before .before .loop in
     at .inv ∙ all-more (sameAt (x .a .now) (x .at) (x .b .now) (x .bt)) 30 (at .k) (c .before .before .before .loop-test .taken) (eq-eqb _ _ (c .if1 .left))
 
 returns-2 : tie.Need-returns-2 Inv-loop μ-loop
-returns-2 c = 
+returns-2 c =
     let x = c .before .before .args in
     sym (c .before .loop .inv ∙ all-end (sameAt (x .a .now) (x .at) (x .b .now) (x .bt)) 30 (c .before .loop .k) (c .loop-test .left))
 

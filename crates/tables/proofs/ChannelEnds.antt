@@ -45,7 +45,7 @@ row-there t id e = omega (arith, within 1 (portsEnd t - windows t) id e, ports-a
 pub source-end : (t : Tables) (r : ℕ) →
     endFits t r 0 ≡ (between 1 (ports t) (endAt t r 0) && eqb (idRow t (endAt t r 0) .direction) source)
 unfolding endFits
-source-end t r = rw (eq-eqb (idRow t (endAt t r 0) .mode) _ refl, le-leb (idRow t (endAt t r 0) .largest) _ (le-refl _), and-true, and-true)
+source-end t r = rw (eq-eqb (idRow t (endAt t r 0) .mode) _ refl, le-leb (idRow t (endAt t r 0) .largest) _ (le-refl _)) (and-true _ ∙ and-true _)
 
 pub source-rowed : (t : Tables) (r : ℕ) → endFits t r 0 ≡ true → between 1 (ports t) (endAt t r 0) ≡ true
 source-rowed t r e = left _ _ (sym (source-end t r) ∙ e)
@@ -132,6 +132,7 @@ past-ports t r k e no-window no-port = at (ltb r (portsEnd t)) refl
     before : (b : Bool) → ltb r (windows t) ≡ b → r < portsEnd t → ⊥
     before true h l = no-window (e ∙ window-kind t r (ltb-true _ _ h))
     before false h l = no-port (e ∙ port-kind t r (ltb-false _ _ h) l)
+
     at : (b : Bool) → ltb r (portsEnd t) ≡ b → portsEnd t ≤ r
     at true h = absurd (before (ltb r (windows t)) refl (ltb-true _ _ h))
     at false h = ltb-false _ _ h
