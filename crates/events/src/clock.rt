@@ -1,6 +1,6 @@
 // The clock and the age of a sample: wrapping sums of 32 bits.
 ghost use mathlib.Core.Path.{_≡_};
-ghost use Prim.Native.Nat.{_<_, _≤_};
+ghost use Prim.Native.Nat.{_+_};
 ghost use Rattle.model.specs.State.{age, wrap};
 
 pub struct Clock {

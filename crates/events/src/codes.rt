@@ -5,8 +5,8 @@ ghost use Prim.Native.Nat.{_≤_};
 ghost use lib.ListN.{length};
 ghost use Rattle.model.specs.Events.{known, need, decode};
 ghost use Rattle.events.specs.Shown.{needOf, askedOf};
-use tables::bytes::word16;
-use tables::bytes::word32;
+use tables::word16;
+use tables::word32;
 
 // What a code needs: the port's mode (0 sampling, 1 queuing, 2 either), its direction (0 source, 1 destination, 2 either),
 // and who may do it (0 a partition, 1 the scheduler, 2 a mover).

@@ -1,4 +1,5 @@
 pub mod Answers
-pub mod Channels
+pub mod ChannelEnds
+pub mod Decoded
 pub mod Faults
 pub mod Places

@@ -9,8 +9,8 @@ ghost use Rattle.model.specs.Load.{windowFits, rowFits, portFits, channelFits, 
 ghost use Rattle.tables.specs.Pieces.{unusedBlank};
 use super::bytes::blank;
 use super::bytes::wide;
-use super::bytes::word16;
 use super::bytes::word32;
+use super::channels::id_at;
 use super::layout::kind;
 use super::layout::window_length;
 use super::layout::window_partition;
@@ -112,7 +112,7 @@ fn unused_blank(t: &[u8], r: usize, count: u8) -> bool
 {
     let mut j = count as usize + 1;
     while j < 9 {
-        if word16(t, 48 * r + 2 + 2 * j) != 0 {
+        if id_at(t, r, j) != 0 {
             return false;
         }
         j += 1;

@@ -1,6 +1,7 @@
 // The loader of 01, "Tables" and "Load refusals": the verdict on the caller's bytes, and the rows, counts and ends of the tables,
 // each read where it stands. Nothing is collected. Every function's contract is an equation with the model's definition of the same name.
 mod bytes;
+mod channels;
 mod ends;
 mod fields;
 mod layout;
@@ -8,9 +9,11 @@ mod load;
 mod names;
 mod rows;
 
-//pub use ends::destination_count;
-//pub use ends::destination_port;
-//pub use ends::source_port;
+pub use bytes::word16;
+pub use bytes::word32;
+pub use channels::destination_count;
+pub use channels::destination_port;
+pub use channels::source_port;
 pub use layout::channel_count;
 pub use layout::port_count;
 pub use layout::ports_end;

@@ -7,7 +7,7 @@ use mathlib.Core.Path.{ap, sym, _∙_}
 use mathlib.Core.Bool.{not}
 use Rattle.model.specs.Load.{channelEndsFit}
 use Rattle.tables.proofs.Answers.{fails, holds}
-use Rattle.tables.proofs.Channels.{source-rowed, source-row, count-of}
+use Rattle.tables.proofs.ChannelEnds.{source-rowed, source-row, count-of}
 
 source-fits-requires : tie.Need-source-fits-requires
 source-fits-requires c κs = search needs

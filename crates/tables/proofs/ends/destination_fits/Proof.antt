@@ -10,7 +10,7 @@ use Rattle.model.specs.Load.{idRow, endFits}
 use Rattle.tables.specs.Shown.{decoded}
 use Rattle.tables.proofs.Answers.{fails, holds}
 use Rattle.tables.proofs.Places.{ports-after}
-use Rattle.tables.proofs.Channels.{has-row, destination-end}
+use Rattle.tables.proofs.ChannelEnds.{has-row, destination-end}
 
 end-at-requires : tie.Need-end-at-requires
 end-at-requires c κs = search needs

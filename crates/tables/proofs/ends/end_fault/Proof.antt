@@ -7,7 +7,7 @@ use mathlib.Core.Path.{ap}
 use mathlib.Core.Bool.{not}
 use borrow.Author.Tests.{ne-eqb}
 use Rattle.model.specs.Load.{endFault}
-use Rattle.tables.proofs.Channels.{past-ports, modes-fit}
+use Rattle.tables.proofs.ChannelEnds.{past-ports, modes-fit}
 
 kind-requires : tie.Need-kind-requires
 kind-requires c κs = search needs

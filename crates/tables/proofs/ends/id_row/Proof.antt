@@ -3,7 +3,7 @@
 use Rattle.tables.proofs.ends.id_row.Statement.{statement}
 use Rattle.tables.proofs.ends.id_row.Tie as tie
 use native.Mathlib.Omega.{arith}
-use Rattle.tables.proofs.Channels.{within, row-there}
+use Rattle.tables.proofs.ChannelEnds.{within, row-there}
 
 sub-port-row : tie.Need-sub-port-row
 sub-port-row c = within _ _ _ (c .before .pre .1) .least

@@ -12,7 +12,7 @@ use Rattle.tables.specs.Shown.{decoded}
 use Rattle.tables.specs.declared.PortRow.{PortRow}
 use Rattle.tables.proofs.Answers.{fails, holds}
 use Rattle.tables.proofs.Places.{ports-after}
-use Rattle.tables.proofs.Channels.{has-row, source-end}
+use Rattle.tables.proofs.ChannelEnds.{has-row, source-end}
 
 end-at-requires : tie.Need-end-at-requires
 end-at-requires c κs = search needs

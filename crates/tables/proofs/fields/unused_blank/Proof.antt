@@ -3,7 +3,7 @@
 use borrow.Author.Needs.{needs}
 use Rattle.tables.proofs.fields.unused_blank.Statement.{statement}
 use Rattle.tables.proofs.fields.unused_blank.Tie as tie
-use Prim.Native.Nat.{ℕ, suc, _-_, _≤_}
+use Prim.Native.Nat.{ℕ, suc, _-_}
 use mathlib.Core.Path.{_≡_, sym, _∙_}
 use mathlib.Core.Bool.{Bool}
 use native.Mathlib.Numerals.{add-one}
@@ -34,26 +34,15 @@ add-j c = search needs
 loop-holds : tie.Need-loop-holds Inv-loop μ-loop
 loop-holds c = rw (add-one, rest)
 
-mul-word16 : tie.Need-mul-word16 Inv-loop μ-loop
-mul-word16 c = search needs
-
-add-word16 : tie.Need-add-word16 Inv-loop μ-loop
-add-word16 c = search needs
-
-mul-word16-2 : tie.Need-mul-word16-2 Inv-loop μ-loop
-mul-word16-2 c = search needs
-
-add-word16-2 : tie.Need-add-word16-2 Inv-loop μ-loop
-add-word16-2 c = search needs
-
-word16-requires : tie.Need-word16-requires Inv-loop μ-loop
-word16-requires c κs = search needs
+id-at-requires : tie.Need-id-at-requires Inv-loop μ-loop
+id-at-requires c κs = search needs
 
 returns : tie.Need-returns Inv-loop μ-loop
 returns c =
-    let t = c .before .before .before .before .before .args in
+    let given = c .before .before .before .before .before .args in
     let at = c .before .before .before .loop in
-    sym (at .inv ∙ all-stop (isUnused (t .t .now) (t .r)) 9 (at .j) (c .before .before .loop-test .taken) (ne-eqb _ _ (λ e. c .if1 .taken (c .before .word16 .ensures ∙ e))))
+    let test = ne-eqb _ 0 (λ e. c .if1 .taken (c .before .id-at .ensures ∙ e)) in
+    sym (at .inv ∙ all-stop (isUnused (given .t .now) (given .r)) 9 (at .j) (c .before .before .loop-test .taken) test)
 
 add-j-2 : tie.Need-add-j-2 Inv-loop μ-loop
 add-j-2 c = search needs
@@ -63,15 +52,15 @@ loop-less c = search needs
 
 loop-again : tie.Need-loop-again Inv-loop μ-loop
 loop-again c =
-    let t = c .before .before .before .before .before .args in
+    let given = c .before .before .before .before .before .args in
     let at = c .before .before .before .loop in
-    at .inv ∙ all-more (isUnused (t .t .now) (t .r)) 9 (at .j) (c .before .before .loop-test .taken) (eq-eqb _ _ (sym (c .before .word16 .ensures) ∙ c .if1 .left))
+    let test = eq-eqb _ 0 (sym (c .before .id-at .ensures) ∙ c .if1 .left) in
+    at .inv ∙ all-more (isUnused (given .t .now) (given .r)) 9 (at .j) (c .before .before .loop-test .taken) test
 
 returns-2 : tie.Need-returns-2 Inv-loop μ-loop
 returns-2 c =
-    let t = c .before .before .before .args in
-    let at = c .before .loop in
-    sym (at .inv ∙ all-end (isUnused (t .t .now) (t .r)) 9 (at .j) (c .loop-test .left))
+    let given = c .before .before .before .args in
+    sym (c .before .loop .inv ∙ all-end (isUnused (given .t .now) (given .r)) 9 (c .before .loop .j) (c .loop-test .left))
 
 pub unused-blank-spec : {M : Type 1} → statement M
 unused-blank-spec =
@@ -81,11 +70,7 @@ unused-blank-spec =
     μ-loop
     add-j
     loop-holds
-    mul-word16
-    add-word16
-    mul-word16-2
-    add-word16-2
-    word16-requires
+    id-at-requires
     returns
     add-j-2
     loop-less

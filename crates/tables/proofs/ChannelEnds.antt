@@ -45,7 +45,7 @@ row-there t id e = omega (arith, within 1 (portsEnd t - windows t) id e, ports-a
 pub source-end : (t : Tables) (r : ℕ) →
     endFits t r 0 ≡ (between 1 (ports t) (endAt t r 0) && eqb (idRow t (endAt t r 0) .direction) source)
 unfolding endFits
-source-end t r = rw (eq-eqb (idRow t (endAt t r 0) .mode) _ refl, le-leb (idRow t (endAt t r 0) .largest) _ (le-refl _), and-true, and-true)
+source-end t r = rw (eq-eqb (idRow t (endAt t r 0) .mode) _ refl, le-leb (idRow t (endAt t r 0) .largest) _ (le-refl _)) (and-true _ ∙ and-true _)
 
 pub source-rowed : (t : Tables) (r : ℕ) → endFits t r 0 ≡ true → between 1 (ports t) (endAt t r 0) ≡ true
 source-rowed t r e = left _ _ (sym (source-end t r) ∙ e)

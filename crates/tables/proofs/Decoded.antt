@@ -1,0 +1,24 @@
+-- Of a row in its ranges nothing is lost where it is decoded: what the decoded row shows is the row.
+-- Assumes nothing.
+use Prim.Native.Nat.{ℕ}
+use mathlib.Core.Path.{_≡_}
+use mathlib.Core.Logic.{⊎-elim}
+use Rattle.model.specs.Tables.{sampling, queuing, Row}
+use Rattle.model.proofs.Accepted.{RowRanges}
+use Rattle.tables.specs.Shown.{rowOf, decoded}
+
+abbrev parts : ℕ → ℕ → ℕ → ℕ → ℕ → ℕ → Row
+parts o m d l k p = record { owner = o; mode = m; direction = d; largest = l; depth = k; refresh = p }
+
+sampled : (o m d l k p : ℕ) → m ≡ sampling → k ≡ 0 → rowOf (decoded (parts o m d l k p)) ≡ parts o m d l k p
+sampled o m d l k p e z = rw (e, z)
+
+queued : (o m d l k p : ℕ) → m ≡ queuing → p ≡ 0 → rowOf (decoded (parts o m d l k p)) ≡ parts o m d l k p
+queued o m d l k p e z = rw (e, z)
+
+pub shown : (row : Row) → RowRanges row → rowOf (decoded row) ≡ row
+shown row ranges =
+    ⊎-elim
+    (λ s. sampled _ _ _ _ _ _ s (ranges .noDepth s))
+    (λ q. queued _ _ _ _ _ _ q (ranges .noRefresh q))
+    (ranges .moded)

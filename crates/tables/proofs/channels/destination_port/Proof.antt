@@ -1,0 +1,27 @@
+-- `tables::channels::destination_port` meets its contract, by what `id_at` and `port_of` ensure.
+-- Assumes nothing.
+use borrow.Author.Needs.{needs}
+use Rattle.tables.proofs.channels.destination_port.Statement.{statement}
+use Rattle.tables.proofs.channels.destination_port.Tie as tie
+use native.Mathlib.Numerals.{add-one}
+use Rattle.model.specs.Tables.{destinationPort}
+
+add-id-at : tie.Need-add-id-at
+add-id-at c = search needs
+
+add-id-at-2 : tie.Need-add-id-at-2
+add-id-at-2 c = search needs
+
+id-at-requires : tie.Need-id-at-requires
+id-at-requires c κs = search needs
+
+port-of-requires : tie.Need-port-of-requires
+port-of-requires c κs = search needs
+
+returns : tie.Need-returns
+unfolding destinationPort
+returns c = rw (← c .before .before .before .pre .0, ← add-one (c .before .before .before .args .j), ← c .before .id-at .ensures) (c .port-of .ensures)
+
+pub destination-port-spec : {M : Type 1} → statement M
+destination-port-spec =
+    tie.close (tie.spec add-id-at add-id-at-2 id-at-requires port-of-requires returns)
