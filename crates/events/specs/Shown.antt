@@ -6,13 +6,13 @@ use Rattle.model.specs.Words.{bytes16, bytes32, zeros, filled}
 use Rattle.model.specs.Events as model
 use Rattle.model.specs.Answers.{Told}
 use Rattle.model.specs.Services.{Reply, refuse, done}
-use Rattle.events.specs.declared.codes.Need.{Need}
+use Rattle.events.specs.declared.codes.CodeRow.{CodeRow}
 use Rattle.events.specs.declared.codes.Fields.{Fields}
 use Rattle.events.specs.declared.codes.Asked.{Asked}
 use Rattle.events.specs.declared.codes.Asked.the-variants.{Clock, Call, Move, Unknown}
 use Rattle.events.specs.declared.answers.Answer.{Answer}
 
-abbrev pub needOf : Need → model.Need
+abbrev pub needOf : CodeRow → model.Need
 needOf n = record { mode = n .mode; direction = n .direction; caller = n .caller }
 
 abbrev pub callOf : Fields → model.Call

@@ -10,7 +10,7 @@ use tables::word32;
 
 // What a code needs: the port's mode (0 sampling, 1 queuing, 2 either), its direction (0 source, 1 destination, 2 either),
 // and who may do it (0 a partition, 1 the scheduler, 2 a mover).
-pub struct Need {
+pub struct CodeRow {
     pub mode: u8,
     pub direction: u8,
     pub caller: u8,
@@ -25,87 +25,87 @@ pub const BY_SCHEDULER: u8 = 1;
 pub const BY_MOVER: u8 = 2;
 
 // The one table: a row for each code, from 1 on.
-const CODES: [Need; 14] = [
+const CODES: [CodeRow; 14] = [
     // 1 CREATE_SAMPLING_PORT
-    Need {
+    CodeRow {
         mode: 0,
         direction: 2,
         caller: 0,
     },
     // 2 WRITE_SAMPLING_MESSAGE
-    Need {
+    CodeRow {
         mode: 0,
         direction: 0,
         caller: 0,
     },
     // 3 READ_SAMPLING_MESSAGE
-    Need {
+    CodeRow {
         mode: 0,
         direction: 1,
         caller: 0,
     },
     // 4 GET_SAMPLING_PORT_ID
-    Need {
+    CodeRow {
         mode: 0,
         direction: 2,
         caller: 0,
     },
     // 5 GET_SAMPLING_PORT_STATUS
-    Need {
+    CodeRow {
         mode: 0,
         direction: 2,
         caller: 0,
     },
     // 6 CREATE_QUEUING_PORT
-    Need {
+    CodeRow {
         mode: 1,
         direction: 2,
         caller: 0,
     },
     // 7 SEND_QUEUING_MESSAGE
-    Need {
+    CodeRow {
         mode: 1,
         direction: 0,
         caller: 0,
     },
     // 8 RECEIVE_QUEUING_MESSAGE
-    Need {
+    CodeRow {
         mode: 1,
         direction: 1,
         caller: 0,
     },
     // 9 GET_QUEUING_PORT_ID
-    Need {
+    CodeRow {
         mode: 1,
         direction: 2,
         caller: 0,
     },
     // 10 GET_QUEUING_PORT_STATUS
-    Need {
+    CodeRow {
         mode: 1,
         direction: 2,
         caller: 0,
     },
     // 11 CLEAR_QUEUING_PORT
-    Need {
+    CodeRow {
         mode: 1,
         direction: 1,
         caller: 0,
     },
     // 12 SET_PARTITION_MODE
-    Need {
+    CodeRow {
         mode: 2,
         direction: 2,
         caller: 0,
     },
     // 13 SCHEDULE
-    Need {
+    CodeRow {
         mode: 2,
         direction: 2,
         caller: 1,
     },
     // 14 TRANSMIT
-    Need {
+    CodeRow {
         mode: 2,
         direction: 2,
         caller: 2,
@@ -113,7 +113,7 @@ const CODES: [Need; 14] = [
 ];
 
 // The row of a known code.
-pub fn need(code: u8) -> Need
+pub fn need(code: u8) -> CodeRow
     requires { ⌜ known code ≡ true ⌝ }
     ensures { λ r. ⌜ needOf r ≡ need code ⌝ }
 {

@@ -4,7 +4,7 @@ use Prim.Native.Nat.{ℕ}
 use mathlib.Core.Path.{_≡_}
 use mathlib.Core.Logic.{⊎-elim}
 use Rattle.model.specs.Tables.{sampling, queuing, Row}
-use Rattle.model.proofs.Accepted.{RowRanges}
+use Rattle.model.proofs.Rows.{RowRanges}
 use Rattle.tables.specs.Shown.{rowOf, decoded}
 
 abbrev parts : ℕ → ℕ → ℕ → ℕ → ℕ → ℕ → Row

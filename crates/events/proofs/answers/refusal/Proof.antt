@@ -1,0 +1,16 @@
+-- `events::answers::refusal` meets its contract. Assumes nothing.
+use mathlib.Core.Path.{refl}
+use borrow.Author.Needs.{needs}
+use Rattle.events.specs.Shown.{refusedAs, toldAs}
+use Rattle.events.proofs.answers.refusal.Statement.{statement}
+use Rattle.events.proofs.answers.refusal.Tie as tie
+use Rattle.events.proofs.answers.refusal.Reads as reads
+use Rattle.events.proofs.answers.refusal.Lts as lts
+
+-- src/answers.rt:23:1
+returns : tie.Need-returns
+unfolding refusedAs
+returns c = refl
+
+pub refusal-spec : {M : Type 1} → statement M
+refusal-spec = tie.close (tie.spec returns)
