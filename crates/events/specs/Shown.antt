@@ -48,10 +48,11 @@ abbrev pub replied : ℕ → Reply → Answer
 replied doer (refuse code) = refusedAs code doer
 replied doer (done v s) = toldAs doer v
 
--- the 80 bytes of an answer
-unfoldable pub answerBytes : Answer → List ℕ
-answerBytes a =
+-- the 80 bytes of an answer: sixteen, and the message
+unfoldable pub headBytes : Answer → List ℕ
+headBytes a =
     a .code ∷ a .doer ∷ bytes16 (a .id)
-    ++ (bytes32 (a .number)
-    ++ (bytes32 (a .size)
-    ++ (a .validity ∷ a .direction ∷ bytes16 (a .depth) ++ a .message)))
+    ++ (bytes32 (a .number) ++ (bytes32 (a .size) ++ (a .validity ∷ a .direction ∷ bytes16 (a .depth))))
+
+unfoldable pub answerBytes : Answer → List ℕ
+answerBytes a = headBytes a ++ a .message

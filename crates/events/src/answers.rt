@@ -1,8 +1,9 @@
 // What an answer says, and its 80 bytes.
 ghost use mathlib.Core.Path.{_≡_};
-ghost use lib.ListN.{length};
+ghost use mathlib.Core.List.{_++_};
+ghost use lib.ListN.{length, take, drop};
 ghost use Rattle.model.specs.Answers.{nothingTold, toldId, toldNumber};
-ghost use Rattle.events.specs.Shown.{refusedAs, toldAs, answerBytes};
+ghost use Rattle.events.specs.Shown.{refusedAs, toldAs, headBytes, answerBytes};
 
 pub struct Answer {
     pub code: u8,
@@ -57,4 +58,49 @@ pub fn told_number(doer: u8, number: u32) -> Answer
     let mut a = refusal(0, doer);
     a.number = number;
     a
+}
+
+// The first sixteen bytes of an answer.
+fn lay_head(a: Answer, out: &mut [u8])
+    requires { ⌜ length (now out) ≡ 80 ⌝ }
+    ensures { λ _. ⌜ now (out .exit) ≡ headBytes a ++ drop 16 (now (out .entry)) ⌝ }
+{
+    out[0] = a.code;
+    out[1] = a.doer;
+    out[2] = (a.id % 256) as u8;
+    out[3] = (a.id / 256 % 256) as u8;
+    out[4] = (a.number % 256) as u8;
+    out[5] = (a.number / 256 % 256) as u8;
+    out[6] = (a.number / 65536 % 256) as u8;
+    out[7] = (a.number / 16777216 % 256) as u8;
+    out[8] = (a.size % 256) as u8;
+    out[9] = (a.size / 256 % 256) as u8;
+    out[10] = (a.size / 65536 % 256) as u8;
+    out[11] = (a.size / 16777216 % 256) as u8;
+    out[12] = a.validity;
+    out[13] = a.direction;
+    out[14] = (a.depth % 256) as u8;
+    out[15] = (a.depth / 256 % 256) as u8;
+}
+
+// The message bytes, 16 to 79.
+fn lay_message(message: [u8; 64], out: &mut [u8])
+    requires { ⌜ length (now out) ≡ 80 ⌝ }
+    ensures { λ _. ⌜ now (out .exit) ≡ take 16 (now (out .entry)) ++ message ⌝ }
+{
+    let mut i: usize = 0;
+    while i < 64 {
+        out[16 + i] = message[i];
+        i = i + 1;
+    }
+}
+
+// The 80 bytes of an answer, laid where they go.
+pub fn lay_answer(a: Answer, out: &mut [u8])
+    requires { ⌜ length (now out) ≡ 80 ⌝ }
+    ensures { λ _. ⌜ now (out .exit) ≡ answerBytes a ⌝ }
+{
+    lay_head(a, out);
+    let message = a.message;
+    lay_message(message, out);
 }

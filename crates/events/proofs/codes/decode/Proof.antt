@@ -48,14 +48,14 @@ word32-requires-2 c κs = search needs
 
 -- src/codes.rt:162:9
 returns-2 : tie.Need-returns-2
-returns-2 c = 
+returns-2 c =
     let k = sym (c .before .before .before .before .before .before .before .before .is-known .ensures) ∙ not-false _ (c .before .before .before .before .before .before .before .if1 .left) in
     let row = ap (λ n. n .caller) (c .before .before .before .before .before .before .need .ensures) in
     rw (c .before .before .word16 .ensures, c .before .word32 .ensures, c .word322 .ensures) (sym (decode-call (c .before .before .before .before .before .before .before .before .before .before .before .args .event .now) k (sym row ∙ c .before .before .before .before .if2 .taken)))
 
 -- src/codes.rt:171:9
 returns-3 : tie.Need-returns-3
-returns-3 c = 
+returns-3 c =
     let k = sym (c .before .before .before .before .before .before .is-known .ensures) ∙ not-false _ (c .before .before .before .before .before .if1 .left) in
     let row = ap (λ n. n .caller) (c .before .before .before .before .need .ensures) in
     sym (decode-clock (c .before .before .before .before .before .before .before .before .before .args .event .now) k (λ q. c .before .before .if2 .left (row ∙ q)) (sym row ∙ c .if3 .taken))
@@ -66,7 +66,7 @@ word16-requires-2 c κs = search needs
 
 -- src/codes.rt:152:1
 returns-4 : tie.Need-returns-4
-returns-4 c = 
+returns-4 c =
     let k = sym (c .before .before .before .before .before .before .before .is-known .ensures) ∙ not-false _ (c .before .before .before .before .before .before .if1 .left) in
     let row = ap (λ n. n .caller) (c .before .before .before .before .before .need .ensures) in
     rw (c .word162 .ensures) (sym (decode-move (c .before .before .before .before .before .before .before .before .before .before .args .event .now) k (λ q. c .before .before .before .if2 .left (row ∙ q)) (λ q. c .before .if3 .left (row ∙ q))))
