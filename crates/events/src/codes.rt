@@ -1,9 +1,10 @@
 // The constant table of the codes, and the decoder of events.
 ghost use mathlib.Core.Path.{_≡_};
-ghost use mathlib.Core.Bool.{true};
+ghost use mathlib.Core.Bool.{true, _||_};
+ghost use lib.Dec.{eqb};
 ghost use Prim.Native.Nat.{_≤_};
 ghost use lib.ListN.{length};
-ghost use Rattle.model.specs.Events.{known, need, decode};
+ghost use Rattle.model.specs.Events.{known, need, either, decode};
 ghost use Rattle.events.specs.Shown.{needOf, askedOf};
 use tables::word16;
 use tables::word32;
@@ -119,6 +120,15 @@ pub fn need(code: u8) -> CodeRow
 {
     let at = code as usize - 1;
     CODES[at]
+}
+
+// A port of this direction will do for the code.
+pub fn directed(code: u8, direction: u8) -> bool
+    requires { ⌜ known code ≡ true ⌝ }
+    ensures { λ r. ⌜ r ≡ (eqb (need code .direction) either || eqb direction (need code .direction)) ⌝ }
+{
+    let row = need(code);
+    row.direction == EITHER || direction == row.direction
 }
 
 // The fields of a call.

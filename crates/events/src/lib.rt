@@ -2,3 +2,17 @@
 mod answers;
 mod clock;
 mod codes;
+
+pub use answers::Answer;
+pub use answers::done;
+pub use answers::lay_answer;
+pub use answers::refusal;
+pub use answers::told_id;
+pub use answers::told_number;
+pub use clock::age;
+pub use clock::later;
+pub use codes::Asked;
+pub use codes::Fields;
+pub use codes::decode;
+pub use codes::directed;
+pub use codes::need;

@@ -1,0 +1,2 @@
+-- What a service at one port does to the lent arrays.
+pub mod Served
