@@ -75,3 +75,7 @@ layOut queue = record { bytes = filled 512 (allFilled queue); lengths = filled s
 pub record Sized (st : Store) : Type 0 where
   pub few : st .count ≤ slots
   pub short : (i : ℕ) → suc i ≤ st .count → getD (st .lengths) (slotOf st i) 0 ≤ slotSize
+
+-- the same said of the messages themselves: each has at most 64 bytes
+abbrev pub Short : List Message → Type 0
+Short queue = (i : ℕ) → suc i ≤ length queue → length (getD queue i []) ≤ slotSize

@@ -1,9 +1,9 @@
 // One port's store: up to eight messages with their lengths, a struct by value. Every stored message passes through it.
 // The slots are a ring: the oldest message is in slot `oldest`, the next in the slot after it, and after slot 7 comes slot 0.
 ghost use mathlib.Core.Path.{_≡_};
-ghost use Prim.Native.Nat.{_+_, _*_, _%_, _<_, _≤_};
+ghost use Prim.Native.Nat.{_+_, _%_, _<_, _≤_};
 ghost use lib.ListN.{length, getD, take, drop};
-ghost use Rattle.stores.specs.Ring.{Sized, slots, slotSize, slotOf, messageIn, pasted, letterOf, noMessages, appended, oldestOf, dropped, queueOf, layOut};
+ghost use Rattle.stores.specs.Ring.{Sized, slots, slotSize, slotOf, letterOf, noMessages, appended, oldestOf, dropped, queueOf, layOut};
 
 // A message on its way: its bytes, with zeros after them, and its length, at most 64.
 pub struct Letter {
@@ -46,18 +46,7 @@ fn slot(oldest: u32, i: u32) -> u32
     (oldest % 8 + i) % 8
 }
 
-// The 64 bytes of `l` put into a store's bytes from `at` on.
-fn put(bytes: &mut [u8; 512], at: usize, l: &[u8; 64])
-    requires { ⌜ at + slotSize ≤ 512 ⌝ }
-    ensures { λ _. ⌜ now (bytes .exit) ≡ pasted (now (bytes .entry)) at (now (l .entry)) ⌝ }
-{
-    let mut i = 0;
-    while i < 64 {
-        bytes[at + i] = l[i];
-        i += 1;
-    }
-}
-
+// The store of a port at load.
 pub fn empty() -> Store
     ensures { λ r. ⌜ r ≡ noMessages ⌝ }
 {
@@ -69,37 +58,36 @@ pub fn empty() -> Store
     }
 }
 
+// A letter put into the slot behind the last.
 pub fn append(st: Store, l: Letter) -> Store
     requires { ⌜ st .count < slots ⌝ }
     ensures { λ r. ⌜ r ≡ appended st l ⌝ }
 {
     let at = slot(st.oldest, st.count) as usize;
+    let first = 64 * at;
     let mut next = st;
-    put(&mut next.bytes, at * 64, &l.bytes);
+    let mut i = 0;
+    while i < 64 {
+        next.bytes[first + i] = l.bytes[i];
+        i += 1;
+    }
     next.lengths[at] = l.size;
     next.count = st.count + 1;
     next
 }
 
-// The letter of the message that is `i` places behind the oldest.
-fn message(st: Store, i: u32) -> Letter
-    requires { ⌜ i < slots ⌝ }
-    requires { ⌜ getD (st .lengths) (slotOf st i) 0 ≤ slotSize ⌝ }
-    ensures { λ r. ⌜ r ≡ letterOf (messageIn st (slotOf st i)) ⌝ }
-{
-    let at = slot(st.oldest, i) as usize;
-    let size = st.lengths[at];
-    letter_of(&st.bytes, at * 64, size)
-}
-
+// The oldest message, which stays.
 pub fn oldest(st: Store) -> Letter
     requires { ⌜ 0 < st .count ⌝ }
     requires { ⌜ getD (st .lengths) (slotOf st 0) 0 ≤ slotSize ⌝ }
     ensures { λ r. ⌜ r ≡ oldestOf st ⌝ }
 {
-    message(st, 0)
+    let at = slot(st.oldest, 0) as usize;
+    let size = st.lengths[at];
+    letter_of(&st.bytes, 64 * at, size)
 }
 
+// The oldest message taken away: its bytes stay in their slot, which no longer counts.
 pub fn drop_oldest(st: Store) -> Store
     requires { ⌜ 0 < st .count ⌝ }
     ensures { λ r. ⌜ r ≡ dropped st ⌝ }
@@ -110,15 +98,18 @@ pub fn drop_oldest(st: Store) -> Store
     rest
 }
 
+// The same messages in settled form: the oldest in slot 0, and zeros wherever no message stands.
 pub fn settled(st: Store) -> Store
     requires { ⌜ Sized st ⌝ }
     ensures { λ r. ⌜ r ≡ layOut (queueOf st) ⌝ }
 {
-    let mut r = empty();
+    let mut laid = empty();
     let mut i = 0;
     while i < st.count {
-        r = append(r, message(st, i));
+        let at = slot(st.oldest, i) as usize;
+        let size = st.lengths[at];
+        laid = append(laid, letter_of(&st.bytes, 64 * at, size));
         i += 1;
     }
-    r
+    laid
 }
