@@ -207,6 +207,18 @@ pub layOut-none : layOut [] ≡ noMessages
 unfolding layOut noMessages
 layOut-none = refl
 
+pub layOut-count : (q : List Message) → layOut q .count ≡ length q
+unfolding layOut
+layOut-count q = refl
+
+pub layOut-bytes : (q : List Message) → length (layOut q .bytes) ≡ 512
+unfolding layOut
+layOut-bytes q = length-filled 512 (allFilled q)
+
+pub layOut-lengths : (q : List Message) → length (layOut q .lengths) ≡ 8
+unfolding layOut
+layOut-lengths q = length-filled 8 (map length q)
+
 -- one message more is one letter more
 pub layOut-append : (q : List Message) (m : Message) → length q < 8 → layOut (q ++ m ∷ []) ≡ appended (layOut q) (letterOf m)
 unfolding layOut appended
@@ -236,7 +248,19 @@ unfolding queueOf layOut
 laid-none = record { holds = refl; sized = rw layOut-none sized-none }
 
 laid-more : (q : List Message) (m : Message) → length q < 8 → length m ≤ 64 → Laid q → Laid (q ++ m ∷ [])
-laid-more q m room fits laid = ?
+laid-more q m room fits laid =
+    let more : layOut (q ++ m ∷ []) ≡ appended (layOut q) (letterOf m) = layOut-append q m room in
+    let free : layOut q .count < 8 = omega (arith, layOut-count q) in
+    let wide : length (layOut q .bytes) ≡ 512 = layOut-bytes q in
+    let eight : length (layOut q .lengths) ≡ 8 = layOut-lengths q in
+    let whole : length (filled 64 m) ≡ 64 = length-filled 64 m in
+    record {
+      holds =
+          ap queueOf more
+          ∙ queue-appended (layOut q) wide eight (letterOf m) whole free fits (laid .sized)
+          ∙ ap₂ (λ held w. held ++ w ∷ []) (laid .holds) (written-letter m fits);
+      sized = rw more (sized-appended (layOut q) wide eight (letterOf m) whole free fits (laid .sized));
+    }
 
 laid-prefix : (q : List Message) → length q ≤ 8 → Short q → (k : ℕ) → k ≤ length q → Laid (take k q)
 laid-prefix q few short zero h = laid-none
@@ -253,6 +277,15 @@ module _ (q : List Message) (few : length q ≤ 8) (short : Short q) where
 
   pub sized-layOut : Sized (layOut q)
   sized-layOut = laid .sized
+
+-- the first messages of a store laid out, and one message more
+pub layOut-next : (st : Store) (i : ℕ) → i < st .count → i < 8
+    → appended (layOut (take i (queueOf st))) (letterOf (messageIn st (slotOf st i))) ≡ layOut (take (i + 1) (queueOf st))
+layOut-next st i more room =
+    let inside : i < length (queueOf st) = omega (arith, queue-length st) in
+    let counted : length (take i (queueOf st)) ≡ i = length-take-le i (queueOf st) (omega arith) in
+    rw (← (queue-at st i more), ← (layOut-append (take i (queueOf st)) (getD (queueOf st) i []) (omega arith)), add-one)
+    (ap layOut (sym (take-suc (queueOf st) i [] inside)))
 
 -- two stores that are settled and hold the same are equal
 pub settled-equal : (a b : Store) → a ≡ layOut (queueOf a) → b ≡ layOut (queueOf b) → queueOf a ≡ queueOf b → a ≡ b

