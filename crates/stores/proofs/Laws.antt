@@ -44,7 +44,7 @@ messages-same a b zero i j same = refl
 messages-same a b (suc n) i j same =
     let first : placed a i ≡ placed b j = simp add-zero at (same 0 (omega arith)) in
     let rest : (k : ℕ) → k < n → placed a (suc i + k) ≡ placed b (suc j + k) =
-        λ k h. ap (placed a) (one-later i k) ∙ same (suc k) (omega arith) ∙ sym (ap (placed b) (one-later j k))
+    λ k h. ap (placed a) (one-later i k) ∙ same (suc k) (omega arith) ∙ sym (ap (placed b) (one-later j k))
     in
     ap₂ (λ m q. m ∷ q) first (messages-same a b n (suc i) (suc j) rest)
 
@@ -152,10 +152,10 @@ module _ (st : Store) (wide : length (st .bytes) ≡ 512) (eight : length (st .l
     unfolding queueOf appended
     queue-appended fits sized =
         let kept : (k : ℕ) → k < st .count → placed (appended st l) (0 + k) ≡ placed st (0 + k) =
-            λ k h. message-kept (0 + k) (omega arith) (sized .short (0 + k) (omega arith))
+        λ k h. message-kept (0 + k) (omega arith) (sized .short (0 + k) (omega arith))
         in
         let stored : placed (appended st l) (0 + st .count) ≡ written l =
-            ap (placed (appended st l)) (zero-add (st .count)) ∙ message-stored fits
+        ap (placed (appended st l)) (zero-add (st .count)) ∙ message-stored fits
         in
         ap (λ n. messagesFrom (appended st l) n 0) (add-one (st .count))
         ∙ messages-last (appended st l) (st .count) 0
@@ -225,15 +225,15 @@ unfolding layOut appended
 layOut-append q m room =
     let place : length q ≡ (0 + length q) % 8 = omega arith in
     let bytes : filled 512 (allFilled (q ++ m ∷ [])) ≡ pasted (filled 512 (allFilled q)) (64 * ((0 + length q) % 8)) (filled 64 m) =
-        ap (filled 512) (filled-joined q (m ∷ []) ∙ ap (λ part. allFilled q ++ part) (append-nil (filled 64 m)))
-        ∙ filled-append 512 (allFilled q) (filled 64 m) (omega (arith, filled-size q, length-filled 64 m))
-        ∙ ap (λ at. pasted (filled 512 (allFilled q)) at (filled 64 m)) (filled-size q ∙ ap (λ k. 64 * k) place)
+    ap (filled 512) (filled-joined q (m ∷ []) ∙ ap (λ part. allFilled q ++ part) (append-nil (filled 64 m)))
+    ∙ filled-append 512 (allFilled q) (filled 64 m) (omega (arith, filled-size q, length-filled 64 m))
+    ∙ ap (λ at. pasted (filled 512 (allFilled q)) at (filled 64 m)) (filled-size q ∙ ap (λ k. 64 * k) place)
     in
     let sizes : filled 8 (map length (q ++ m ∷ [])) ≡ set (filled 8 (map length q)) ((0 + length q) % 8) (length m) =
-        ap (filled 8) (sizes-joined q (m ∷ []))
-        ∙ filled-append 8 (map length q) (length m ∷ []) (omega (arith, length-map q length))
-        ∙ pasted-one (filled 8 (map length q)) (length (map length q)) (length m) (omega (arith, length-map q length, length-filled 8 (map length q)))
-        ∙ ap (λ at. set (filled 8 (map length q)) at (length m)) (length-map q length ∙ place)
+    ap (filled 8) (sizes-joined q (m ∷ []))
+    ∙ filled-append 8 (map length q) (length m ∷ []) (omega (arith, length-map q length))
+    ∙ pasted-one (filled 8 (map length q)) (length (map length q)) (length m) (omega (arith, length-map q length, length-filled 8 (map length q)))
+    ∙ ap (λ at. set (filled 8 (map length q)) at (length m)) (length-map q length ∙ place)
     in
     let counted : length (q ++ m ∷ []) ≡ length q + 1 = length-append q (m ∷ []) in
     λ i. record { bytes = bytes i; lengths = sizes i; oldest = 0; count = counted i }

@@ -43,8 +43,8 @@ module _ (l : List ℕ) (at : ℕ) (part : List ℕ) (within : at + length part 
   read-before n from before =
       let head : List ℕ = take at l in
       let left : (rest : List ℕ) → take n (drop from (head ++ rest)) ≡ take n (drop from head) =
-          λ rest. ap (take n) (drop-append-le from head rest (omega (arith, head-length)))
-          ∙ take-append-le n (drop from head) rest (omega (arith, head-length, length-drop from head))
+      λ rest. ap (take n) (drop-append-le from head rest (omega (arith, head-length)))
+      ∙ take-append-le n (drop from head) rest (omega (arith, head-length, length-drop from head))
       in
       left (part ++ drop (at + length part) l)
       ∙ sym (left (drop at l))

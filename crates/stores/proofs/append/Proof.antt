@@ -12,9 +12,6 @@ use Rattle.stores.specs.Ring.{appended, pasted, slotOf}
 use Rattle.stores.proofs.Lists.{paste-pasted, paste-turn}
 use Rattle.stores.proofs.append.Statement.{statement}
 use Rattle.stores.proofs.append.Tie as tie
-use Rattle.stores.proofs.append.Reads as reads
-use Rattle.stores.proofs.append.Lts as lts
-use Rattle.stores.proofs.slot.Reads as slot-reads
 
 abbrev Inv-loop : tie.InvT-loop
 Inv-loop st l at first next₀ i₀ next i =
@@ -38,15 +35,14 @@ mul-first : tie.Need-mul-first Inv-loop μ-loop
 mul-first c = search needs
 
 loop-holds : tie.Need-loop-holds Inv-loop μ-loop
-loop-holds c =
-    (
-      search needs,
-      search needs,
-      paste-zero (c .before .args .st .bytes) (64 * c .slot .result) (c .before .args .t2 .bytes),
-      refl,
-      refl,
-      refl,
-    )
+loop-holds c = (
+  search needs,
+  search needs,
+  paste-zero (c .before .args .st .bytes) (64 * c .slot .result) (c .before .args .t2 .bytes),
+  refl,
+  refl,
+  refl,
+)
 
 element-copy-out-next : tie.Need-element-copy-out-next Inv-loop μ-loop
 element-copy-out-next c = search needs
@@ -69,16 +65,15 @@ loop-again c =
     let i : ℕ = c .before .before .loop .i in
     let first : ℕ = 64 * c .before .before .before .slot .result in
     let wide : length (start .args .st .bytes) ≡ 512 = search needs in
-    let long : length (start .args .t2 .bytes) ≡ 64 = search needs in
-    (
+    let long : length (start .args .t2 .bytes) ≡ 64 = search needs in (
       search needs,
       simp length-set (omega arith),
       paste-turn (start .args .st .bytes) first (start .args .t2 .bytes) i
-      (c .before .before .loop .inv .2)
-      refl
-      refl
-      (omega arith)
-      (omega arith),
+          (c .before .before .loop .inv .2)
+          refl
+          refl
+          (omega arith)
+          (omega arith),
       c .before .before .loop .inv .3,
       c .before .before .loop .inv .4,
       c .before .before .loop .inv .5,
@@ -103,8 +98,8 @@ returns c =
     let long : length bytes ≡ 64 = search needs in
     let all : c .before .before .loop .i ≡ length bytes = omega arith in
     let stored : c .before .before .loop .next .bytes ≡ pasted (st .bytes) (64 * slotOf st (st .count)) bytes =
-        c .before .before .loop .inv .2
-        ∙ rw (all, here) (paste-pasted (st .bytes) (64 * slotOf st (st .count)) bytes)
+    c .before .before .loop .inv .2
+    ∙ rw (all, here) (paste-pasted (st .bytes) (64 * slotOf st (st .count)) bytes)
     in
     simp (stored, here, c .before .before .loop .inv .3, c .before .before .loop .inv .4)
 

@@ -13,8 +13,6 @@ use borrow.Author.Needs.{needs}
 use Rattle.stores.proofs.Lists.{filled-pasted, paste-turn}
 use Rattle.stores.proofs.letter_of.Statement.{statement}
 use Rattle.stores.proofs.letter_of.Tie as tie
-use Rattle.stores.proofs.letter_of.Reads as reads
-use Rattle.stores.proofs.letter_of.Lts as lts
 
 abbrev Inv-loop : tie.InvT-loop
 Inv-loop b at size bytes₀ n i₀ bytes i = (i ≤ n) × (length bytes ≡ 64) × (bytes ≡ paste bytes₀ 0 (drop at b) i)
@@ -44,16 +42,15 @@ loop-again : tie.Need-loop-again Inv-loop μ-loop
 loop-again c =
     let start = c .before .before .before in
     let source : List ℕ = drop (start .args .at) (now (start .args .b)) in
-    let i : ℕ = c .before .before .loop .i in
-    (
+    let i : ℕ = c .before .before .loop .i in (
       search needs,
       simp length-set (omega arith),
       paste-turn (zeros 64) 0 source i
-      (c .before .before .loop .inv .2)
-      (sym (zero-add i))
-      (sym (getD-drop (start .args .at) (now (start .args .b)) i 0))
-      (omega arith)
-      (simp length-drop (omega arith)),
+          (c .before .before .loop .inv .2)
+          (sym (zero-add i))
+          (sym (getD-drop (start .args .at) (now (start .args .b)) i 0))
+          (omega arith)
+          (simp length-drop (omega arith)),
     )
 
 returns : tie.Need-returns Inv-loop μ-loop
@@ -64,7 +61,7 @@ returns c =
     let all : c .before .loop .i ≡ size = omega arith in
     let long : size ≤ length source = simp length-drop (omega arith) in
     let copied : c .before .loop .bytes ≡ filled 64 (take size source) =
-        c .before .loop .inv .2 ∙ rw all (filled-pasted 64 source size (omega arith) long)
+    c .before .loop .inv .2 ∙ rw all (filled-pasted 64 source size (omega arith) long)
     in
     let counted : length (take size source) ≡ size = length-take-le size source long in
     simp (copied, counted)

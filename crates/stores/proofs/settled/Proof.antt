@@ -12,12 +12,6 @@ use Rattle.stores.specs.Ring.{slotOf, messageIn, letterOf, queueOf, appe
 use Rattle.stores.proofs.Laws.{queue-length, layOut-none, layOut-count, layOut-next}
 use Rattle.stores.proofs.settled.Statement.{statement}
 use Rattle.stores.proofs.settled.Tie as tie
-use Rattle.stores.proofs.settled.Reads as reads
-use Rattle.stores.proofs.settled.Lts as lts
-use Rattle.stores.proofs.append.Reads as append-reads
-use Rattle.stores.proofs.empty.Reads as empty-reads
-use Rattle.stores.proofs.letter_of.Reads as letter-of-reads
-use Rattle.stores.proofs.slot.Reads as slot-reads
 
 abbrev Inv-loop : tie.InvT-loop
 Inv-loop st laid₀ i₀ laid i = (i ≤ st .count) × (laid ≡ layOut (take i (queueOf st)))
@@ -54,7 +48,7 @@ letter-of-requires c κs =
     let wide : length (start .args .t1 .bytes) ≡ 512 = search needs in
     let here : at ≡ slotOf (start .args .t1) (head .loop .i) = c .before .before .before .before .slot .ensures in
     let short : getD (start .args .t1 .lengths) at 0 ≤ 64 =
-        rw here (start .pre .short (head .loop .i) (c .before .before .before .before .before .loop-test .taken))
+    rw here (start .pre .short (head .loop .i) (c .before .before .before .before .before .loop-test .taken))
     in
     omega arith
 
@@ -63,7 +57,7 @@ append-requires c κs =
     let head = c .before .before .before .before .before .before .before in
     let queue : List Message = queueOf (head .before .before .args .t1) in
     let counted : head .loop .laid .count ≡ length (take (head .loop .i) queue) =
-        ap (λ st. st .count) (head .loop .inv .1) ∙ layOut-count (take (head .loop .i) queue)
+    ap (λ st. st .count) (head .loop .inv .1) ∙ layOut-count (take (head .loop .i) queue)
     in
     let first : length (take (head .loop .i) queue) ≤ head .loop .i = simp length-take (omega arith) in
     let few : head .before .before .args .t1 .count ≤ 8 = head .before .before .pre .few in
@@ -83,7 +77,7 @@ loop-again c =
     let few : st .count ≤ 8 = head .before .before .pre .few in
     let more : i < st .count = c .before .before .before .before .before .before .before .loop-test .taken in
     let letter : c .before .letter-of .result ≡ letterOf (messageIn st (slotOf st i)) =
-        c .before .letter-of .ensures ∙ ap (λ at. letterOf (messageIn st at)) (c .before .before .before .before .before .before .slot .ensures)
+    c .before .letter-of .ensures ∙ ap (λ at. letterOf (messageIn st at)) (c .before .before .before .before .before .before .slot .ensures)
     in
     (search needs, c .append .ensures ∙ ap₂ appended (head .loop .inv .1) letter ∙ layOut-next st i more (omega arith))
 
