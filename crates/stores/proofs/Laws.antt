@@ -3,56 +3,21 @@
 use Prim.Native.Nat.{ℕ, zero, suc, _+_, _-_, _*_, _%_, _≤_, _<_}
 use mathlib.Core.Path.{_≡_, refl, sym, ap, ap₂, _∙_, subst}
 use mathlib.Core.Bool.{Bool, true, false}
-use mathlib.Core.Logic.{_≢_}
 use mathlib.Core.List.{List, [], _∷_, _++_, map, append-nil, append-assoc}
-use native.Mathlib.Nat.{add-zero, zero-add, add-suc, suc-add}
+use native.Mathlib.Nat.{zero-add}
 use native.Mathlib.Numerals.{add-one}
 use native.Mathlib.Omega.{arith}
 use lib.Dec.{ltb}
-use lib.ListN.{length, getD, take, drop, set, length-append, length-set, length-map, length-drop}
-use lib.Seq.{getD-set-same, getD-set-other, length-take-le, take-length, take-suc}
+use lib.ListN.{length, getD, take, set, length-append, length-map, length-drop}
+use lib.Seq.{length-take-le, take-length, take-suc}
 use borrow.Author.Tests.{ltb-true, ltb-false}
-use Rattle.model.specs.Words.{filled, zeros}
+use Rattle.model.specs.Words.{filled}
 use Rattle.model.specs.State.{Message}
 use Rattle.stores.specs.declared.Letter.{Letter}
 use Rattle.stores.specs.declared.Store.{Store}
 use Rattle.stores.specs.Ring.{slotOf, messageIn, messagesFrom, queueOf, written, letterOf, pasted, appended, dropped, oldestOf, noMessages, allFilled, layOut, Sized, Short}
-use Rattle.stores.proofs.Lists.{length-pasted, read-part, read-before, read-after, pasted-one, length-filled, take-filled, filled-none, filled-append}
-
--- ---- the messages from a place on
-
--- the message that is i places behind the oldest
-abbrev placed : Store → ℕ → Message
-placed st i = messageIn st (slotOf st i)
-
-one-later : (i k : ℕ) → suc i + k ≡ i + suc k
-one-later i k = omega arith
-
-pub messages-length : (st : Store) (n i : ℕ) → length (messagesFrom st n i) ≡ n
-messages-length st zero i = refl
-messages-length st (suc n) i = ap suc (messages-length st n (suc i))
-
-pub messages-at : (st : Store) (n i k : ℕ) → k < n → getD (messagesFrom st n i) k [] ≡ messageIn st (slotOf st (i + k))
-messages-at st zero i k h = absurd (omega arith)
-messages-at st (suc n) i zero h = simp add-zero
-messages-at st (suc n) i (suc k) h = messages-at st n (suc i) k (omega arith) ∙ ap (placed st) (one-later i k)
-
--- two runs of slots that hold the same
-pub messages-same : (a b : Store) (n i j : ℕ) → ((k : ℕ) → k < n → messageIn a (slotOf a (i + k)) ≡ messageIn b (slotOf b (j + k)))
-    → messagesFrom a n i ≡ messagesFrom b n j
-messages-same a b zero i j same = refl
-messages-same a b (suc n) i j same =
-    let first : placed a i ≡ placed b j = simp add-zero at (same 0 (omega arith)) in
-    let rest : (k : ℕ) → k < n → placed a (suc i + k) ≡ placed b (suc j + k) =
-    λ k h. ap (placed a) (one-later i k) ∙ same (suc k) (omega arith) ∙ sym (ap (placed b) (one-later j k))
-    in
-    ap₂ (λ m q. m ∷ q) first (messages-same a b n (suc i) (suc j) rest)
-
--- the last of them apart
-pub messages-last : (st : Store) (n i : ℕ) → messagesFrom st (suc n) i ≡ messagesFrom st n i ++ messageIn st (slotOf st (i + n)) ∷ []
-messages-last st zero i = simp add-zero
-messages-last st (suc n) i =
-    ap (λ q. placed st i ∷ q) (messages-last st n (suc i) ∙ ap (λ w. messagesFrom st n (suc i) ++ placed st w ∷ []) (one-later i n))
+use Rattle.stores.proofs.Lists.{pasted-one, length-filled, take-filled, filled-append}
+use Rattle.stores.proofs.Slots.{placed, messages-length, messages-at, messages-same, messages-last, length-kept, length-stored, message-kept, message-stored}
 
 -- ---- the queue
 
@@ -72,6 +37,14 @@ pub queue-none : queueOf noMessages ≡ []
 unfolding queueOf noMessages
 queue-none = refl
 
+pub appended-count : (st : Store) (l : Letter) → appended st l .count ≡ st .count + 1
+unfolding appended
+appended-count st l = refl
+
+pub dropped-count : (st : Store) → dropped st .count ≡ st .count - 1
+unfolding dropped
+dropped-count st = refl
+
 pub queue-dropped : (st : Store) → 0 < st .count → queueOf st ≡ messageIn st (slotOf st 0) ∷ queueOf (dropped st)
 unfolding queueOf dropped
 queue-dropped st some =
@@ -84,6 +57,9 @@ queue-dropped st some =
 
 pub written-letter : (m : Message) → length m ≤ 64 → written (letterOf m) ≡ m
 written-letter m fits = take-filled 64 m fits
+
+pub letter-bytes : (m : Message) → length (letterOf m .bytes) ≡ 64
+letter-bytes m = length-filled 64 m
 
 -- the oldest message is the queue's head
 pub oldest-head : (st : Store) → 0 < st .count → (m : Message) (q : List Message) → queueOf st ≡ m ∷ q → oldestOf st ≡ letterOf m
@@ -104,58 +80,29 @@ module _ (st : Store) (wide : length (st .bytes) ≡ 512) (eight : length (st .l
       let fits : getD (st .lengths) (slotOf st i) 0 ≤ 64 = sized .short i stored in
       rw (queue-at st i stored, message-length (slotOf st i) (omega arith) fits) fits
 
+  -- the queue is the oldest message and the rest
+  pub oldest-size : Sized st → 0 < st .count → oldestOf st .size ≤ 64
+  unfolding oldestOf
+  oldest-size sized some =
+      let fits : getD (st .lengths) (slotOf st 0) 0 ≤ 64 = sized .short 0 some in
+      rw (message-length (slotOf st 0) (omega arith) fits) fits
+
+  pub queue-oldest : Sized st → 0 < st .count → queueOf st ≡ written (oldestOf st) ∷ queueOf (dropped st)
+  unfolding oldestOf
+  queue-oldest sized some =
+      queue-dropped st some
+      ∙ ap (λ m. m ∷ queueOf (dropped st)) (sym (written-letter (messageIn st (slotOf st 0)) (oldest-size sized some)))
+
+  -- one letter more: the queue grows by its message, and test 29 still lets the store through
   module _ (l : Letter) (whole : length (l .bytes) ≡ 64) (room : st .count < 8) where
-    abbrev free : ℕ
-    free = slotOf st (st .count)
-
-    part-within : 64 * free + length (l .bytes) ≤ length (st .bytes)
-    part-within = omega arith
-
-    pub appended-bytes : length (appended st l .bytes) ≡ 512
-    unfolding appended
-    appended-bytes = length-pasted (st .bytes) (64 * free) (l .bytes) part-within ∙ wide
-
-    pub appended-lengths : length (appended st l .lengths) ≡ 8
-    unfolding appended
-    appended-lengths = simp length-set eight
-
-    another-slot : (i : ℕ) → i < st .count → slotOf st i ≢ free
-    another-slot i h = omega arith
-
-    length-kept : (i : ℕ) → i < st .count → getD (set (st .lengths) free (l .size)) (slotOf st i) 0 ≡ getD (st .lengths) (slotOf st i) 0
-    length-kept i h = getD-set-other (st .lengths) free (slotOf st i) (l .size) 0 (another-slot i h)
-
-    length-stored : getD (set (st .lengths) free (l .size)) free 0 ≡ l .size
-    length-stored = getD-set-same (st .lengths) free (l .size) 0 (omega arith)
-
-    -- a slot that holds a message keeps it
-    message-kept : (i : ℕ) → i < st .count → getD (st .lengths) (slotOf st i) 0 ≤ 64 → messageIn (appended st l) (slotOf st i) ≡ messageIn st (slotOf st i)
-    unfolding appended
-    message-kept i h fits = rw (length-kept i h) (go (ltb (slotOf st i) free) refl)
-      where
-        go : (b : Bool) → ltb (slotOf st i) free ≡ b
-            → take (getD (st .lengths) (slotOf st i) 0) (drop (64 * slotOf st i) (pasted (st .bytes) (64 * free) (l .bytes)))
-            ≡ messageIn st (slotOf st i)
-        go true before =
-            let lower : slotOf st i < free = ltb-true _ _ before in
-            read-before (st .bytes) (64 * free) (l .bytes) part-within (getD (st .lengths) (slotOf st i) 0) (64 * slotOf st i) (omega arith)
-        go false after =
-            let higher : free ≤ slotOf st i = ltb-false _ _ after in
-            let apart : slotOf st i ≢ free = another-slot i h in
-            read-after (st .bytes) (64 * free) (l .bytes) part-within (getD (st .lengths) (slotOf st i) 0) (64 * slotOf st i) (omega arith)
-
-    message-stored : l .size ≤ 64 → messageIn (appended st l) free ≡ written l
-    unfolding appended
-    message-stored fits = rw length-stored (read-part (st .bytes) (64 * free) (l .bytes) part-within (l .size) (omega arith))
-
     pub queue-appended : l .size ≤ 64 → Sized st → queueOf (appended st l) ≡ queueOf st ++ written l ∷ []
     unfolding queueOf appended
     queue-appended fits sized =
         let kept : (k : ℕ) → k < st .count → placed (appended st l) (0 + k) ≡ placed st (0 + k) =
-        λ k h. message-kept (0 + k) (omega arith) (sized .short (0 + k) (omega arith))
+        λ k h. message-kept st wide eight l whole room (0 + k) (omega arith) (sized .short (0 + k) (omega arith))
         in
         let stored : placed (appended st l) (0 + st .count) ≡ written l =
-        ap (placed (appended st l)) (zero-add (st .count)) ∙ message-stored fits
+        ap (placed (appended st l)) (zero-add (st .count)) ∙ message-stored st wide eight l whole room fits
         in
         ap (λ n. messagesFrom (appended st l) n 0) (add-one (st .count))
         ∙ messages-last (appended st l) (st .count) 0
@@ -167,14 +114,14 @@ module _ (st : Store) (wide : length (st .bytes) ≡ 512) (eight : length (st .l
         record { few = omega arith; short = λ i h. go i h (ltb i (st .count)) refl }
       where
         go : (i : ℕ) → suc i ≤ st .count + 1 → (b : Bool) → ltb i (st .count) ≡ b
-            → getD (set (st .lengths) free (l .size)) (slotOf st i) 0 ≤ 64
+            → getD (appended st l .lengths) (slotOf st i) 0 ≤ 64
         go i h true before =
             let old : i < st .count = ltb-true i (st .count) before in
-            rw (length-kept i old) (sized .short i old)
+            rw (length-kept st wide eight l whole room i old) (sized .short i old)
         go i h false after =
             let above : st .count ≤ i = ltb-false i (st .count) after in
             let last : i ≡ st .count = omega arith in
-            rw (last, length-stored) fits
+            rw (last, length-stored st wide eight l whole room) fits
 
 pub sized-dropped : (st : Store) → 0 < st .count → Sized st → Sized (dropped st)
 unfolding dropped
@@ -277,6 +224,14 @@ module _ (q : List Message) (few : length q ≤ 8) (short : Short q) where
 
   pub sized-layOut : Sized (layOut q)
   sized-layOut = laid .sized
+
+-- a settled store holds what the store held
+module _ (st : Store) (wide : length (st .bytes) ≡ 512) (eight : length (st .lengths) ≡ 8) (sized : Sized st) where
+  pub queue-settled : queueOf (layOut (queueOf st)) ≡ queueOf st
+  queue-settled = queue-layOut (queueOf st) (omega (arith, queue-length st, sized .few)) (queue-short st wide eight sized)
+
+  pub sized-settled : Sized (layOut (queueOf st))
+  sized-settled = sized-layOut (queueOf st) (omega (arith, queue-length st, sized .few)) (queue-short st wide eight sized)
 
 -- the first messages of a store laid out, and one message more
 pub layOut-next : (st : Store) (i : ℕ) → i < st .count → i < 8

@@ -1,13 +1,12 @@
 -- Lists: one with a part replaced, read where the part stands and beside it; one brought to a length by zeros after it.
 -- Assumes nothing.
-use Prim.Native.Nat.{ℕ, zero, suc, _+_, _-_, _≤_, _<_}
-use mathlib.Core.Path.{_≡_, refl, sym, ap, _∙_}
+use Prim.Native.Nat.{ℕ, _+_, _-_, _≤_, _<_}
+use mathlib.Core.Path.{_≡_, sym, ap, _∙_}
 use mathlib.Core.List.{List, [], _∷_, _++_, append-assoc}
-use mathlib.Core.Logic.{_⊎_, inl, inr}
 use native.Mathlib.Nat.{zero-add}
 use native.Mathlib.Numerals.{add-one}
 use native.Mathlib.Omega.{arith}
-use lib.ListN.{length, getD, take, drop, set, length-append, length-take, length-drop, length-replicate, take-append-drop, replicate-append-replicate}
+use lib.ListN.{length, getD, take, drop, set, length-append, length-drop, length-replicate, take-append-drop, replicate-append-replicate}
 use lib.Seq.{paste, paste-suc, take-all, take-length, take-take, take-append-le, take-append-seam, drop-append-le, drop-append-add, drop-drop, take-append-add, take-at, drop-at, set-split, length-take-le}
 use Rattle.model.specs.Words.{filled, zeros}
 use Rattle.stores.specs.Ring.{pasted}

@@ -3,7 +3,7 @@
 ghost use mathlib.Core.Path.{_≡_};
 ghost use Prim.Native.Nat.{_+_, _%_, _<_, _≤_};
 ghost use lib.ListN.{length, getD, take, drop};
-ghost use Rattle.stores.specs.Ring.{Sized, slots, slotSize, slotOf, letterOf, noMessages, appended, oldestOf, dropped, queueOf, layOut};
+ghost use Rattle.stores.specs.Ring.{Sized, slots, slotSize, slotOf, pasted, letterOf, noMessages, appended, oldestOf, dropped, queueOf, layOut};
 
 // A message on its way: its bytes, with zeros after them, and its length, at most 64.
 pub struct Letter {
@@ -46,6 +46,19 @@ fn slot(oldest: u32, i: u32) -> u32
     (oldest % 8 + i) % 8
 }
 
+// The 64 bytes of a letter put into a store's bytes from `first` on. The proof is not told how long a lent array is, so the lengths are asked for.
+fn put(bytes: &mut [u8; 512], first: usize, letter: &[u8; 64])
+    requires { ⌜ (length (now bytes) ≡ 512) × (length (now letter) ≡ 64) ⌝ }
+    requires { ⌜ first + slotSize ≤ 512 ⌝ }
+    ensures { λ _. ⌜ now (bytes .exit) ≡ pasted (now (bytes .entry)) first (now (letter .entry)) ⌝ }
+{
+    let mut i = 0;
+    while i < 64 {
+        bytes[first + i] = letter[i];
+        i += 1;
+    }
+}
+
 // The store of a port at load.
 pub fn empty() -> Store
     ensures { λ r. ⌜ r ≡ noMessages ⌝ }
@@ -64,13 +77,8 @@ pub fn append(st: Store, l: Letter) -> Store
     ensures { λ r. ⌜ r ≡ appended st l ⌝ }
 {
     let at = slot(st.oldest, st.count) as usize;
-    let first = 64 * at;
     let mut next = st;
-    let mut i = 0;
-    while i < 64 {
-        next.bytes[first + i] = l.bytes[i];
-        i += 1;
-    }
+    put(&mut next.bytes, 64 * at, &l.bytes);
     next.lengths[at] = l.size;
     next.count = st.count + 1;
     next
@@ -103,13 +111,22 @@ pub fn settled(st: Store) -> Store
     requires { ⌜ Sized st ⌝ }
     ensures { λ r. ⌜ r ≡ layOut (queueOf st) ⌝ }
 {
-    let mut laid = empty();
+    let mut bytes = [0u8; 512];
+    let mut lengths = [0u32; 8];
     let mut i = 0;
     while i < st.count {
         let at = slot(st.oldest, i) as usize;
         let size = st.lengths[at];
-        laid = append(laid, letter_of(&st.bytes, 64 * at, size));
+        let l = letter_of(&st.bytes, 64 * at, size);
+        let k = i as usize;
+        put(&mut bytes, 64 * k, &l.bytes);
+        lengths[k] = l.size;
         i += 1;
     }
-    laid
+    Store {
+        bytes,
+        lengths,
+        oldest: 0,
+        count: st.count,
+    }
 }

@@ -1,13 +1,13 @@
 -- `stores::letter_of` meets its contract. The loop's invariant: the first i bytes are copied over the zeros. The measure is what is left of the size.
 -- Assumes nothing.
-use mathlib.Core.Path.{_≡_, refl, sym, ap, _∙_}
-use Prim.Native.Nat.{ℕ, _+_, _-_, _≤_}
+use mathlib.Core.Path.{_≡_, refl, sym, _∙_}
+use Prim.Native.Nat.{ℕ, _-_, _≤_}
 use native.Mathlib.Omega.{arith}
 use native.Mathlib.Nat.{zero-add}
 use mathlib.Core.List.{List}
 use Rattle.model.specs.Words.{filled, zeros}
-use lib.ListN.{length, getD, take, set, drop, length-set, length-drop}
-use lib.Seq.{paste, paste-zero, paste-suc, getD-drop, length-take-le}
+use lib.ListN.{length, take, drop, length-set, length-drop}
+use lib.Seq.{paste, getD-drop, length-take-le}
 use denote.Ref.{now}
 use borrow.Author.Needs.{needs}
 use Rattle.stores.proofs.Lists.{filled-pasted, paste-turn}
