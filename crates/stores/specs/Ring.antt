@@ -2,7 +2,7 @@
 -- Assumes nothing.
 use Prim.Native.Nat.{ℕ, zero, suc, _+_, _-_, _*_, _%_, _≤_}
 use mathlib.Core.List.{List, [], _∷_, _++_, map}
-use lib.ListN.{length, getD, take, drop, set, replicate}
+use lib.ListN.{length, getD, take, drop, set}
 use Rattle.model.specs.Words.{filled, zeros}
 use Rattle.model.specs.State.{Message}
 use Rattle.stores.specs.declared.Letter.{Letter}
@@ -75,3 +75,7 @@ layOut queue = record { bytes = filled 512 (allFilled queue); lengths = filled s
 pub record Sized (st : Store) : Type 0 where
   pub few : st .count ≤ slots
   pub short : (i : ℕ) → suc i ≤ st .count → getD (st .lengths) (slotOf st i) 0 ≤ slotSize
+
+-- the same said of the messages themselves: each has at most 64 bytes
+abbrev pub Short : List Message → Type 0
+Short queue = (i : ℕ) → suc i ≤ length queue → length (getD queue i []) ≤ slotSize
