@@ -8,7 +8,7 @@ use native.Mathlib.Nat.{zero-add}
 use native.Mathlib.Numerals.{add-one}
 use native.Mathlib.Omega.{arith}
 use lib.Dec.{ltb}
-use lib.ListN.{length, getD, take, set, length-append, length-map, length-drop}
+use lib.ListN.{length, getD, take, set, length-append, length-map, length-drop, drop}
 use lib.Seq.{length-take-le, take-length, take-suc}
 use borrow.Author.Tests.{ltb-true, ltb-false}
 use Rattle.model.specs.Words.{filled}
@@ -71,21 +71,21 @@ oldest-head st some m q holds =
 -- ---- a store whose arrays have their lengths
 
 module _ (st : Store) (wide : length (st .bytes) ≡ 512) (eight : length (st .lengths) ≡ 8) where
-  pub message-length : (slot : ℕ) → slot < 8 → getD (st .lengths) slot 0 ≤ 64 → length (messageIn st slot) ≡ getD (st .lengths) slot 0
-  message-length slot inside fits = length-take-le _ _ (simp length-drop (omega arith))
+  pub message-length : (slot : ℕ) → length (messageIn st slot) ≡ getD (st .lengths) slot 0
+  message-length slot = length-filled (getD (st .lengths) slot 0) (take 64 (drop (64 * slot) (st .bytes)))
 
   pub queue-short : Sized st → Short (queueOf st)
   queue-short sized i h =
       let stored : i < st .count = omega (arith, queue-length st) in
       let fits : getD (st .lengths) (slotOf st i) 0 ≤ 64 = sized .short i stored in
-      rw (queue-at st i stored, message-length (slotOf st i) (omega arith) fits) fits
+      rw (queue-at st i stored, message-length (slotOf st i)) fits
 
   -- the queue is the oldest message and the rest
   pub oldest-size : Sized st → 0 < st .count → oldestOf st .size ≤ 64
   unfolding oldestOf
   oldest-size sized some =
       let fits : getD (st .lengths) (slotOf st 0) 0 ≤ 64 = sized .short 0 some in
-      rw (message-length (slotOf st 0) (omega arith) fits) fits
+      rw (message-length (slotOf st 0)) fits
 
   pub queue-oldest : Sized st → 0 < st .count → queueOf st ≡ written (oldestOf st) ∷ queueOf (dropped st)
   unfolding oldestOf
@@ -99,7 +99,7 @@ module _ (st : Store) (wide : length (st .bytes) ≡ 512) (eight : length (st .l
     unfolding queueOf appended
     queue-appended fits sized =
         let kept : (k : ℕ) → k < st .count → placed (appended st l) (0 + k) ≡ placed st (0 + k) =
-        λ k h. message-kept st wide eight l whole room (0 + k) (omega arith) (sized .short (0 + k) (omega arith))
+        λ k h. message-kept st wide eight l whole room (0 + k) (omega arith)
         in
         let stored : placed (appended st l) (0 + st .count) ≡ written l =
         ap (placed (appended st l)) (zero-add (st .count)) ∙ message-stored st wide eight l whole room fits

@@ -8,9 +8,10 @@ use mathlib.Core.List.{[], _∷_, _++_}
 use native.Mathlib.Nat.{add-zero}
 use native.Mathlib.Omega.{arith}
 use lib.Dec.{ltb}
-use lib.ListN.{length, getD, take, drop, length-set}
-use lib.Seq.{getD-set-same, getD-set-other}
+use lib.ListN.{length, getD, take, drop, length-set, length-drop}
+use lib.Seq.{getD-set-same, getD-set-other, length-take-le, take-append-le, take-take, take-all}
 use borrow.Author.Tests.{ltb-true, ltb-false}
+use Rattle.model.specs.Words.{filled, zeros}
 use Rattle.model.specs.State.{Message}
 use Rattle.stores.specs.declared.Letter.{Letter}
 use Rattle.stores.specs.declared.Store.{Store}
@@ -52,6 +53,15 @@ messages-last st zero i = simp add-zero
 messages-last st (suc n) i =
     ap (λ q. placed st i ∷ q) (messages-last st n (suc i) ∙ ap (λ w. messagesFrom st n (suc i) ++ placed st w ∷ []) (one-later i n))
 
+-- a message whose length is at most 64 is that many bytes from its slot's start on
+pub message-stood : (st : Store) → length (st .bytes) ≡ 512 → (slot : ℕ) → slot < 8 → getD (st .lengths) slot 0 ≤ 64
+    → messageIn st slot ≡ take (getD (st .lengths) slot 0) (drop (64 * slot) (st .bytes))
+message-stood st wide slot inside fits =
+    let size = getD (st .lengths) slot 0 in
+    let from = drop (64 * slot) (st .bytes) in
+    let long : length (take 64 from) ≡ 64 = length-take-le 64 from (simp length-drop (omega arith)) in
+    take-append-le size (take 64 from) (zeros size) (omega arith) ∙ take-take size 64 from fits
+
 -- ---- a letter appended
 
 -- the slot behind the last
@@ -78,20 +88,19 @@ module _ (st : Store) (wide : length (st .bytes) ≡ 512) (eight : length (st .l
   unfolding appended
   length-kept i h = getD-set-other (st .lengths) (free st) (slotOf st i) (l .size) 0 (another-slot i h)
 
-  pub message-kept : (i : ℕ) → i < st .count → getD (st .lengths) (slotOf st i) 0 ≤ 64 → messageIn (appended st l) (slotOf st i) ≡ messageIn st (slotOf st i)
+  pub message-kept : (i : ℕ) → i < st .count → messageIn (appended st l) (slotOf st i) ≡ messageIn st (slotOf st i)
   unfolding appended
-  message-kept i h fits = rw (length-kept i h) (go (ltb (slotOf st i) (free st)) refl)
+  message-kept i h = rw (length-kept i h) (ap (filled (getD (st .lengths) (slotOf st i) 0)) (go (ltb (slotOf st i) (free st)) refl))
     where
       go : (b : Bool) → ltb (slotOf st i) (free st) ≡ b
-          → take (getD (st .lengths) (slotOf st i) 0) (drop (64 * slotOf st i) (pasted (st .bytes) (64 * free st) (l .bytes)))
-          ≡ messageIn st (slotOf st i)
+          → take 64 (drop (64 * slotOf st i) (pasted (st .bytes) (64 * free st) (l .bytes))) ≡ take 64 (drop (64 * slotOf st i) (st .bytes))
       go true before =
           let lower : slotOf st i < free st = ltb-true _ _ before in
-          read-before (st .bytes) (64 * free st) (l .bytes) part-within (getD (st .lengths) (slotOf st i) 0) (64 * slotOf st i) (omega arith)
+          read-before (st .bytes) (64 * free st) (l .bytes) part-within 64 (64 * slotOf st i) (omega arith)
       go false after =
           let higher : free st ≤ slotOf st i = ltb-false _ _ after in
           let apart : slotOf st i ≢ free st = another-slot i h in
-          read-after (st .bytes) (64 * free st) (l .bytes) part-within (getD (st .lengths) (slotOf st i) 0) (64 * slotOf st i) (omega arith)
+          read-after (st .bytes) (64 * free st) (l .bytes) part-within 64 (64 * slotOf st i) (omega arith)
 
   -- the slot behind the last has the letter's
   pub length-stored : getD (appended st l .lengths) (free st) 0 ≡ l .size
@@ -100,4 +109,6 @@ module _ (st : Store) (wide : length (st .bytes) ≡ 512) (eight : length (st .l
 
   pub message-stored : l .size ≤ 64 → messageIn (appended st l) (free st) ≡ written l
   unfolding appended
-  message-stored fits = rw length-stored (read-part (st .bytes) (64 * free st) (l .bytes) part-within (l .size) (omega arith))
+  message-stored fits =
+      rw (length-stored, read-part (st .bytes) (64 * free st) (l .bytes) part-within 64 (omega arith), take-all 64 (l .bytes) (omega arith))
+      (take-append-le (l .size) (l .bytes) (zeros (l .size)) (omega arith))

@@ -18,9 +18,9 @@ slotSize = 64
 abbrev pub slotOf : Store → ℕ → ℕ
 slotOf st i = (st .oldest + i) % slots
 
--- the message in a slot
+-- the message in a slot: as many bytes as its length says. A length above 64, which test 29 refuses, does not reach into the next slot
 abbrev pub messageIn : Store → ℕ → Message
-messageIn st slot = take (getD (st .lengths) slot 0) (drop (slotSize * slot) (st .bytes))
+messageIn st slot = filled (getD (st .lengths) slot 0) (take slotSize (drop (slotSize * slot) (st .bytes)))
 
 -- n messages from the i-th on
 abbrev pub messagesFrom : Store → ℕ → ℕ → List Message

@@ -1,10 +1,11 @@
 -- `stores::oldest` meets its contract: the letter is made of the bytes of the slot 0 places behind the oldest.
 -- Assumes nothing.
-use mathlib.Core.Path.{_≡_, _∙_}
-use Prim.Native.Nat.{_≤_}
+use mathlib.Core.Path.{_≡_, _∙_, sym, ap}
+use Prim.Native.Nat.{_≤_, _*_}
 use native.Mathlib.Omega.{arith}
-use lib.ListN.{length, getD}
-use Rattle.stores.specs.Ring.{oldestOf, slotOf}
+use lib.ListN.{length, getD, take, drop}
+use Rattle.stores.specs.Ring.{oldestOf, slotOf, letterOf}
+use Rattle.stores.proofs.Slots.{message-stood}
 use borrow.Author.Needs.{needs}
 use Rattle.stores.proofs.oldest.Statement.{statement}
 use Rattle.stores.proofs.oldest.Tie as tie
@@ -34,7 +35,13 @@ letter-of-requires c κs =
 
 returns : tie.Need-returns
 unfolding oldestOf
-returns c = c .letter-of .ensures ∙ rw (c .before .before .before .before .before .slot .ensures)
+returns c =
+    let start = c .before .before .before .before .before .before in
+    let st = start .args .t1 in
+    let here = c .before .before .before .before .before .slot .ensures in
+    c .letter-of .ensures
+    ∙ ap (λ at. letterOf (take (getD (st .lengths) at 0) (drop (64 * at) (st .bytes)))) here
+    ∙ sym (ap letterOf (message-stood st (search needs) (slotOf st 0) (omega arith) (start .pre .1)))
 
 pub oldest-spec : {M : Type 1} → statement M
 oldest-spec =

@@ -4,13 +4,14 @@ use mathlib.Core.Path.{_≡_, sym, ap, ap₂, _∙_}
 use mathlib.Core.List.{List}
 use Prim.Native.Nat.{ℕ, _+_, _-_, _*_, _%_, _≤_, _<_}
 use native.Mathlib.Omega.{arith}
-use lib.ListN.{length, getD, take, set}
+use lib.ListN.{length, getD, take, drop, set}
 use lib.Seq.{take-length}
 use borrow.Author.Needs.{needs}
 use Rattle.model.specs.State.{Message}
 use Rattle.stores.specs.Ring.{slotOf, messageIn, letterOf, queueOf, noMessages, pasted, appended, layOut}
 use Rattle.stores.specs.declared.Store.{Store}
 use Rattle.stores.specs.declared.Letter.{Letter}
+use Rattle.stores.proofs.Slots.{message-stood}
 use Rattle.stores.proofs.Laws.{queue-length, layOut-none, layOut-bytes, layOut-next}
 use Rattle.stores.proofs.settled.Statement.{statement}
 use Rattle.stores.proofs.settled.Tie as tie
@@ -101,7 +102,9 @@ loop-again c =
     let more : i < st .count = c .before .before .before .before .before .before .before .before .before .before .loop-test .taken in
     let read = c .before .before .before .before in
     let letter : read .letter-of .result ≡ letterOf (messageIn st (slotOf st i)) =
-    read .letter-of .ensures ∙ ap (λ at. letterOf (messageIn st at)) (read .before .before .before .before .before .slot .ensures)
+    read .letter-of .ensures
+    ∙ ap (λ at. letterOf (take (getD (st .lengths) at 0) (drop (64 * at) (st .bytes)))) (read .before .before .before .before .before .slot .ensures)
+    ∙ sym (ap letterOf (message-stood st (search needs) (slotOf st i) (omega arith) (head .before .pre .short i more)))
     in (
       search needs,
       ap (λ bytes. laid bytes (set (head .loop .lengths) i (read .letter-of .result .size)) (i + 1)) (c .put .ensures)
