@@ -1,19 +1,20 @@
 -- Laws of ports in the lent arrays: one port put, and the list of ports after it.
 -- Assumes nothing.
-use Prim.Native.Nat.{ℕ, zero, suc, _+_, _≤_, _<_}
+use Prim.Native.Nat.{ℕ, zero, suc, _+_, _*_, _≤_, _<_}
 use mathlib.Core.Path.{_≡_, refl, sym, _∙_, ap, ap₂, subst}
 use mathlib.Core.Bool.{Bool, true, false}
 use mathlib.Core.List.{List, [], _∷_, _++_, append-nil}
 use native.Mathlib.Nat.{zero-add, add-zero, add-suc, suc-add}
 use native.Mathlib.Omega.{arith}
 use lib.Dec.{eqb}
-use lib.ListN.{length, getD, take, drop, set, length-set}
-use lib.Seq.{ext-getD, getD-set-same, getD-set-other, paste, take-all}
+use lib.ListN.{length, getD, take, drop, set, length-set, length-drop}
+use lib.Seq.{ext-getD, getD-set-same, getD-set-other, paste, take-all, length-take-le}
 use borrow.Author.Tests.{eqb-true, eqb-false}
 use Rattle.model.specs.State.{Port, fresh, withQueue}
 use Rattle.stores.specs.Ring.{queueOf}
+use Rattle.stores.proofs.Laws.{queue-length}
 use Rattle.stores.specs.declared.Store.{Store}
-use Rattle.ports.specs.Held.{rowOf, blockOf, storeIn, portIn, portAt, portsFrom, portsOf, RowPut, BlockPut, PortPut}
+use Rattle.ports.specs.Held.{rowOf, blockOf, storeIn, storeAt, portIn, portAt, portsFrom, portsOf, RowPut, BlockPut, PortPut}
 
 module _ (numbers bytes : List ℕ) where
   from-length : (n k : ℕ) → length (portsFrom numbers bytes n k) ≡ n
@@ -68,3 +69,27 @@ pub store-row : (numbers bytes : List ℕ) (k : ℕ) (st : Store) → length (st
     → portIn (paste (set (set (rowOf numbers k) 3 (st .oldest)) 4 (st .count)) 5 (st .lengths) 8) (st .bytes) ≡ withQueue (portAt numbers bytes k) (queueOf st)
 unfolding portAt rowOf
 store-row numbers bytes k st l = rw (append-nil (take 8 (st .lengths)), take-all 8 (st .lengths) (omega arith))
+
+pub put-kept : (numbers bytes : List ℕ) (k : ℕ) → PortPut numbers bytes numbers bytes k (portAt numbers bytes k)
+put-kept numbers bytes k = record { here = refl; elsewhere = λ j other. refl }
+
+-- the store that is taken out of port k: its arrays are whole, its count is the row's number, and its messages are the port's
+module _ (numbers bytes : List ℕ) (k : ℕ) where
+  pub store-queue : queueOf (storeAt numbers bytes k) ≡ portAt numbers bytes k .queue
+  unfolding storeAt portAt
+  store-queue = refl
+
+  pub store-count : storeAt numbers bytes k .count ≡ getD (rowOf numbers k) 4 0
+  unfolding storeAt
+  store-count = refl
+
+  pub store-lengths : length (storeAt numbers bytes k .lengths) ≡ 8
+  unfolding storeAt rowOf
+  store-lengths = refl
+
+  pub store-bytes : length bytes ≡ 32768 → k < 64 → length (storeAt numbers bytes k .bytes) ≡ 512
+  unfolding storeAt blockOf
+  store-bytes l h = length-take-le 512 (drop (512 * k) bytes) (simp length-drop (omega arith))
+
+  pub count-is : getD (rowOf numbers k) 4 0 ≡ length (portAt numbers bytes k .queue)
+  count-is = sym store-count ∙ sym (queue-length (storeAt numbers bytes k)) ∙ ap length store-queue

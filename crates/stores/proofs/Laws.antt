@@ -95,9 +95,9 @@ module _ (st : Store) (wide : length (st .bytes) ≡ 512) (eight : length (st .l
 
   -- one letter more: the queue grows by its message, and test 29 still lets the store through
   module _ (l : Letter) (whole : length (l .bytes) ≡ 64) (room : st .count < 8) where
-    pub queue-appended : l .size ≤ 64 → Sized st → queueOf (appended st l) ≡ queueOf st ++ written l ∷ []
+    pub queue-appended : l .size ≤ 64 → queueOf (appended st l) ≡ queueOf st ++ written l ∷ []
     unfolding queueOf appended
-    queue-appended fits sized =
+    queue-appended fits =
         let kept : (k : ℕ) → k < st .count → placed (appended st l) (0 + k) ≡ placed st (0 + k) =
         λ k h. message-kept st wide eight l whole room (0 + k) (omega arith)
         in
@@ -204,7 +204,7 @@ laid-more q m room fits laid =
     record {
       holds =
           ap queueOf more
-          ∙ queue-appended (layOut q) wide eight (letterOf m) whole free fits (laid .sized)
+          ∙ queue-appended (layOut q) wide eight (letterOf m) whole free fits
           ∙ ap₂ (λ held w. held ++ w ∷ []) (laid .holds) (written-letter m fits);
       sized = rw more (sized-appended (layOut q) wide eight (letterOf m) whole free fits (laid .sized));
     }
