@@ -2,9 +2,12 @@
 -- Assumes nothing.
 use Prim.Native.Nat.{ℕ, _≤_, _<_}
 use mathlib.Core.Path.{_≡_}
-use mathlib.Core.List.{List}
+use mathlib.Core.List.{List, _∷_}
 use lib.ListN.{length}
 use Rattle.model.specs.Tables.{Row}
+use Rattle.model.specs.State.{Message, withQueue}
+use Rattle.stores.specs.declared.Letter.{Letter}
+use Rattle.stores.specs.Ring.{letterOf}
 use Rattle.model.specs.Services.{Served, refuses, serves}
 use Rattle.model.proofs.Ranges.{PortRanged}
 use Rattle.model.proofs.Rows.{RowRanges}
@@ -35,3 +38,9 @@ pub record Refuses (numbers bytes numbers' bytes' : List ℕ) (doer code : ℕ) 
 abbrev pub Serves : (numbers bytes numbers' bytes' : List ℕ) → (k doer : ℕ) → Answer → Served → Type 0
 Serves numbers bytes numbers' bytes' k doer r (refuses code) = Refuses numbers bytes numbers' bytes' doer code r
 Serves numbers bytes numbers' bytes' k doer r (serves v q) = (r ≡ toldAs doer v) × PortPut numbers bytes numbers' bytes' k q
+
+-- the oldest message m of port k is given, and the rest stay
+abbrev pub TakesOldest : (numbers bytes numbers' : List ℕ) → ℕ → Letter → Type 0
+TakesOldest numbers bytes numbers' k r =
+    (m : Message) (rest : List Message) → portAt numbers bytes k .queue ≡ m ∷ rest
+    → (r ≡ letterOf m) × PortPut numbers bytes numbers' bytes k (withQueue (portAt numbers bytes k) rest)

@@ -23,7 +23,7 @@ pub fn offer(numbers: &mut [u32], bytes: &mut [u8], k: usize, depth: u32, l: Let
     requires { ⌜ (depth ≤ 8) × (l .size ≤ 64) ⌝ }
     ensures { λ _. ⌜ PortPut (now (numbers .entry)) (now (bytes .entry)) (now (numbers .exit)) (now (bytes .exit)) k (withQueue (portAt (now (numbers .entry)) (now (bytes .entry)) k) (offer depth (portAt (now (numbers .entry)) (now (bytes .entry)) k .queue) (written l))) ⌝ }
 {
-    if depth <= ports::number(numbers, k, 4) {
+    if depth <= ports::number(numbers, k, ports::COUNT) {
         return;
     }
     let st = ports::take_store(numbers, bytes, k);

@@ -1,0 +1,21 @@
+use borrow.Author.Needs.{needs}
+use Rattle.services.proofs.getting.validity.Statement.{statement}
+use Rattle.services.proofs.getting.validity.Tie as tie
+use Rattle.services.proofs.getting.validity.Reads as reads
+use Rattle.services.proofs.getting.validity.Lts as lts
+use Rattle.events.proofs.age.Reads as age-reads
+
+-- src/getting.rt:42:8
+age-requires : tie.Need-age-requires
+age-requires c κs = search needs
+
+-- src/getting.rt:39:1
+returns : tie.Need-returns
+returns c = ?
+
+-- src/getting.rt:39:1
+returns-2 : tie.Need-returns-2
+returns-2 c = ?
+
+pub validity-spec : {M : Type 1} → statement M
+validity-spec = tie.close (tie.spec age-requires returns returns-2)

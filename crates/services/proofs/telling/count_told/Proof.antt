@@ -1,0 +1,15 @@
+use Rattle.services.proofs.telling.count_told.Statement.{statement}
+use Rattle.services.proofs.telling.count_told.Tie as tie
+use Rattle.services.proofs.telling.count_told.Reads as reads
+use Rattle.services.proofs.telling.count_told.Lts as lts
+
+-- src/telling.rt:22:1
+returns : tie.Need-returns
+returns c = ?
+
+-- src/telling.rt:22:1
+returns-2 : tie.Need-returns-2
+returns-2 c = ?
+
+pub count-told-spec : {M : Type 1} → statement M
+count-told-spec = tie.close (tie.spec returns returns-2)
