@@ -11,6 +11,7 @@ pub struct Letter {
     pub size: u32,
 }
 
+// 01: "Each port keeps up to eight messages with their lengths (a sampling port one)".
 pub struct Store {
     // eight slots of 64 bytes
     pub bytes: [u8; 512],
@@ -46,7 +47,8 @@ fn slot(oldest: u32, i: u32) -> u32
     (oldest % 8 + i) % 8
 }
 
-// The 64 bytes of a letter put into a store's bytes from `first` on. The proof is not told how long a lent array is, so the lengths are asked for.
+// The 64 bytes of a letter put into a store's bytes from `first` on, in place.
+// A proof is not told how long the list behind a lent array is, so the lengths are asked for.
 fn put(bytes: &mut [u8; 512], first: usize, letter: &[u8; 64])
     requires { ⌜ (length (now bytes) ≡ 512) × (length (now letter) ≡ 64) ⌝ }
     requires { ⌜ first + slotSize ≤ 512 ⌝ }

@@ -61,7 +61,7 @@ letter-of-requires c κs =
     let wide : length (start .args .t1 .bytes) ≡ 512 = search needs in
     let here : at ≡ slotOf (start .args .t1) (head .loop .i) = c .before .before .before .before .slot .ensures in
     let short : getD (start .args .t1 .lengths) at 0 ≤ 64 =
-    rw here (start .pre .short (head .loop .i) (c .before .before .before .before .before .loop-test .taken))
+    rw here (start .pre .short (head .loop .i) (omega arith))
     in
     omega arith
 
@@ -99,7 +99,7 @@ loop-again c =
     let st = head .before .args .t1 in
     let i : ℕ = head .loop .i in
     let few : st .count ≤ 8 = head .before .pre .few in
-    let more : i < st .count = c .before .before .before .before .before .before .before .before .before .before .loop-test .taken in
+    let more : i < st .count = omega arith in
     let read = c .before .before .before .before in
     let letter : read .letter-of .result ≡ letterOf (messageIn st (slotOf st i)) =
     read .letter-of .ensures
