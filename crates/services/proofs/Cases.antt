@@ -4,7 +4,9 @@ use Prim.Native.Nat.{ℕ, _≤_, _<_}
 use mathlib.Core.Path.{_≡_, refl, sym, subst}
 use mathlib.Core.Bool.{Bool, true, false, not}
 use mathlib.Core.List.{List, [], _∷_}
+use native.Mathlib.Omega.{arith}
 use lib.Dec.{eqb}
+use lib.ListN.{length}
 use borrow.Author.Tests.{eq-eqb, ne-eqb, lt-ltb, le-ltb}
 use Rattle.model.specs.Tables.{Row}
 use Rattle.model.specs.State.{Message, Port, withQueue, valid}
@@ -41,3 +43,81 @@ module _ (r : Row) (e : Event) (f : Call) (q : Port) where
       → put r e f q ≡ serves nothingTold (withQueue q (stored r (q .queue) (messageOf e (f .size))))
   unfolding put
   put-stored a b d = rw (ne-eqb (f .size) 0 a, le-ltb (r .largest) (f .size) b, d)
+
+-- 3
+pub read-none : (refresh time : ℕ) (q : Port) {queue : List Message} → queue ≡ [] → readOldest refresh time q queue ≡ refuses 1
+read-none refresh time q e = rw e
+
+pub read-some : (refresh time : ℕ) (q : Port) {queue : List Message} (m : Message) (rest : List Message) → queue ≡ m ∷ rest
+    → readOldest refresh time q queue
+    ≡ serves (toldMessage m (mark (valid refresh time (q .arrival))))
+    (record { created = q .created; arrival = q .arrival; validity = mark (valid refresh time (q .arrival)); queue = q .queue })
+read-some refresh time q m rest e = rw e
+
+-- 8
+pub take-none : (q : Port) {queue : List Message} → queue ≡ [] → takeOldest q queue ≡ refuses 2
+take-none q e = rw e
+
+pub take-some : (q : Port) {queue : List Message} (m : Message) (rest : List Message) → queue ≡ m ∷ rest → takeOldest q queue ≡ serves (toldMessage m 0) (withQueue q rest)
+take-some q m rest e = rw e
+
+-- 3, 8 and 11: the direction
+module _ (time : ℕ) (r : Row) (f : Call) (q : Port) where
+  pub get-wrong : directed (need (f .code)) r ≡ false → get time r f q ≡ refuses 5
+  unfolding get
+  get-wrong d = rw d
+
+  pub get-read : directed (need (f .code)) r ≡ true → f .code ≡ 3 → get time r f q ≡ readOldest (r .refresh) time q (q .queue)
+  unfolding get
+  get-read d e = simp (d, eq-eqb (f .code) 3 e)
+
+  pub get-receive : directed (need (f .code)) r ≡ true → (f .code ≡ 3 → ⊥) → get time r f q ≡ takeOldest q (q .queue)
+  unfolding get
+  get-receive d n = simp (d, ne-eqb (f .code) 3 n)
+
+  pub clear-wrong : directed (need (f .code)) r ≡ false → cleared r f q ≡ refuses 5
+  unfolding cleared
+  clear-wrong d = rw d
+
+  pub clear-done : directed (need (f .code)) r ≡ true → cleared r f q ≡ serves nothingTold (withQueue q [])
+  unfolding cleared
+  clear-done d = rw d
+
+-- a list that is not empty has a first element
+pub some-message : (queue : List Message) → (length queue ≡ 0 → ⊥) → (m : Message) × (rest : List Message) × (queue ≡ m ∷ rest)
+some-message [] h = absurd (h refl)
+some-message (m ∷ rest) h = (m, rest, refl)
+
+pub no-message : (queue : List Message) → length queue ≡ 0 → queue ≡ []
+no-message [] h = refl
+no-message (m ∷ rest) h = absurd (omega arith)
+
+-- the services of an own port, by code
+module _ (time : ℕ) (r : Row) (e : Event) (f : Call) (q : Port) where
+  pub serve-write : f .code ≡ 2 → serve time r e f q ≡ put r e f q
+  unfolding serve
+  serve-write a = rw (eq-eqb (f .code) 2 a)
+
+  module _ (n2 : f .code ≡ 2 → ⊥) where
+    pub serve-send : f .code ≡ 7 → serve time r e f q ≡ put r e f q
+    unfolding serve
+    serve-send a = rw (ne-eqb (f .code) 2 n2, eq-eqb (f .code) 7 a)
+
+    module _ (n7 : f .code ≡ 7 → ⊥) where
+      pub serve-read : f .code ≡ 3 → serve time r e f q ≡ get time r f q
+      unfolding serve
+      serve-read a = rw (ne-eqb (f .code) 2 n2, ne-eqb (f .code) 7 n7, eq-eqb (f .code) 3 a)
+
+      module _ (n3 : f .code ≡ 3 → ⊥) where
+        pub serve-receive : f .code ≡ 8 → serve time r e f q ≡ get time r f q
+        unfolding serve
+        serve-receive a = rw (ne-eqb (f .code) 2 n2, ne-eqb (f .code) 7 n7, ne-eqb (f .code) 3 n3, eq-eqb (f .code) 8 a)
+
+        module _ (n8 : f .code ≡ 8 → ⊥) where
+          pub serve-clear : f .code ≡ 11 → serve time r e f q ≡ cleared r f q
+          unfolding serve
+          serve-clear a = rw (ne-eqb (f .code) 2 n2, ne-eqb (f .code) 7 n7, ne-eqb (f .code) 3 n3, ne-eqb (f .code) 8 n8, eq-eqb (f .code) 11 a)
+
+          pub serve-status : (f .code ≡ 11 → ⊥) → serve time r e f q ≡ serves (status r q) q
+          unfolding serve
+          serve-status a = rw (ne-eqb (f .code) 2 n2, ne-eqb (f .code) 7 n7, ne-eqb (f .code) 3 n3, ne-eqb (f .code) 8 n8, ne-eqb (f .code) 11 a)

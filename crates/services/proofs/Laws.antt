@@ -7,7 +7,8 @@ use mathlib.Core.List.{List, [], _∷_, _++_}
 use native.Mathlib.Omega.{arith}
 use lib.ListN.{length, getD, take, drop, length-take}
 use borrow.Author.Tests.{le-leb, lt-leb}
-use Rattle.model.specs.Words.{allIn}
+use lib.Dec.{eqb}
+use Rattle.model.specs.Words.{if_then_else_, allIn}
 use Rattle.model.specs.Tables.{Row, room}
 use Rattle.model.specs.State.{Message, Port, offer, withQueue}
 use Rattle.model.specs.Events.{messageOf}
@@ -15,13 +16,14 @@ use Rattle.model.proofs.Tests.{both-left, both-right, between-high}
 use Rattle.model.proofs.Ranges.{fits, PortRanged}
 use Rattle.model.proofs.Rows.{RowRanges}
 use Rattle.tables.specs.Shown.{rowOf}
-use Rattle.model.specs.Services.{stored}
+use Rattle.model.specs.Services.{stored, status}
+use Rattle.events.specs.declared.answers.Answer.{Answer}
 use Rattle.tables.specs.declared.PortRow.{PortRow}
 use Rattle.tables.specs.declared.Transfer.the-variants.{Sampling, Queuing}
 use Rattle.stores.specs.declared.Store.{Store}
 use Rattle.stores.specs.declared.Letter.{Letter}
-use Rattle.stores.specs.Ring.{Sized, queueOf, slotOf, written, letterOf, appended, noMessages}
-use Rattle.stores.proofs.Laws.{queue-length, queue-at, message-length, queue-appended, queue-none, written-letter}
+use Rattle.stores.specs.Ring.{Sized, queueOf, slotOf, written, letterOf, appended, dropped, noMessages}
+use Rattle.stores.proofs.Laws.{queue-length, queue-at, message-length, queue-appended, queue-none, queue-empty, queue-dropped, written-letter}
 use Rattle.ports.specs.Held
 use Rattle.ports.specs.Held.{storeAt, portAt, PortPut}
 use Rattle.ports.proofs.Ports.{store-queue, store-count, store-lengths, store-bytes, count-is, put-is, put-kept}
@@ -93,3 +95,40 @@ few-written e size h = simp length-take (omega arith)
 
 pub written-back : (e : List ℕ) (size : ℕ) → size ≤ 64 → written (letterOf (take size (drop 16 e))) ≡ messageOf e size
 written-back e size h = written-letter (take size (drop 16 e)) (few-written e size h)
+
+-- a port that holds a message: its store's count, and the store without its oldest message
+pub some-count : (numbers bytes : List ℕ) (k : ℕ) → (portAt numbers bytes k .queue ≡ [] → ⊥) → 0 < storeAt numbers bytes k .count
+some-count numbers bytes k h =
+    let n : storeAt numbers bytes k .count ≡ 0 → ⊥ =
+    λ z. h (sym (store-queue numbers bytes k) ∙ queue-empty (storeAt numbers bytes k) z)
+    in
+    omega arith
+
+pub rest-is : (st : Store) → 0 < st .count → (m : Message) (rest : List Message) → queueOf st ≡ m ∷ rest → queueOf (dropped st) ≡ rest
+rest-is st some m rest e = cc (queue-dropped st some)
+
+pub validity-is : (numbers bytes : List ℕ) (k : ℕ) → portAt numbers bytes k .validity ≡ getD (Held.rowOf numbers k) 1 0
+unfolding portAt
+validity-is numbers bytes k = refl
+
+pub arrival-is : (numbers bytes : List ℕ) (k : ℕ) → portAt numbers bytes k .arrival ≡ getD (Held.rowOf numbers k) 2 0
+unfolding portAt
+arrival-is numbers bytes k = refl
+
+-- the answer that hands out a letter
+abbrev pub handing : ℕ → ℕ → Letter → Answer
+handing doer validity l =
+    record { code = 0; doer = doer; id = 0; number = 0; size = l .size; validity = validity; direction = 0; depth = 0; message = l .bytes }
+
+-- a port's status, by the case of its row
+pub status-sampling : (row : PortRow) (p : ℕ) (q : Port) → row .transfer ≡ Sampling p
+    → status (rowOf row) q
+    ≡ record { id = 0; number = p; size = row .largest; validity = q .validity; direction = row .direction; depth = 0; message = [] }
+unfolding status
+status-sampling row p q e = rw e
+
+pub status-queuing : (row : PortRow) (d : ℕ) (q : Port) → row .transfer ≡ Queuing d
+    → status (rowOf row) q
+    ≡ record { id = 0; number = if eqb (row .direction) 0 then 0 else length (q .queue); size = row .largest; validity = 0; direction = row .direction; depth = d; message = [] }
+unfolding status
+status-queuing row d q e = rw e

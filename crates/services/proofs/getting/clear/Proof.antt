@@ -1,3 +1,27 @@
+-- `services::getting::clear` meets its contract: the direction, then no message counts. Assumes nothing.
+use Prim.Native.Nat.{_≤_, _<_}
+use mathlib.Core.Path.{_≡_, refl, sym, _∙_, ap, subst}
+use native.Mathlib.Omega.{arith}
+use lib.ListN.{length, getD, set}
+use borrow.Author.Tests.{not-true, not-false}
+use Rattle.model.specs.State.{withQueue, valid}
+use Rattle.model.specs.Answers.{toldMessage}
+use Rattle.model.specs.Services.{mark}
+use Rattle.tables.specs.Shown.{rowOf, refreshOf}
+use Rattle.events.specs.Shown.{callOf, toldAs}
+use Rattle.stores.specs.declared.Store.{Store}
+use Rattle.stores.specs.declared.Letter.{Letter}
+use Rattle.stores.specs.Ring.{queueOf, slotOf, dropped, oldestOf, letterOf}
+use Rattle.stores.proofs.Laws.{oldest-head}
+use Rattle.ports.specs.Held
+use Rattle.ports.specs.Held.{storeAt, portAt}
+use Rattle.ports.proofs.Rows.{row-is}
+use Rattle.ports.proofs.Ports.{put-is, count-is, store-queue}
+use Rattle.ports.proofs.Marks.{put-validity, put-none, put-dropped}
+use Rattle.services.specs.Served.{Serves}
+use Rattle.services.proofs.Laws.{sized-of, some-count, rest-is, validity-is, arrival-is}
+use Rattle.services.proofs.Cases
+use Rattle.services.proofs.Cases.{refuse-as, serve-as, some-message, no-message}
 use borrow.Author.Needs.{needs}
 use Rattle.services.proofs.getting.clear.Statement.{statement}
 use Rattle.services.proofs.getting.clear.Tie as tie
@@ -18,7 +42,14 @@ refusal-requires c κs = search needs
 
 -- src/getting.rt:136:9
 returns : tie.Need-returns
-returns c = ?
+returns c =
+    let a = c .before .before .before .before .before .args in
+    let n = a .numbers .now in
+    let b = a .bytes .now in
+    let q = portAt n b (a .k) in
+    let r = rowOf (a .row) in
+    let f = callOf (a .f) in
+    refuse-as n b (a .k) (a .doer) 5 (c .refusal .result) (Cases.clear-wrong 0 r f q (sym (c .before .before .directed .ensures) ∙ not-true _ (c .before .if1 .taken))) (c .refusal .ensures)
 
 -- src/getting.rt:138:5
 set-number-requires : tie.Need-set-number-requires
@@ -34,7 +65,14 @@ same-length c = search needs
 
 -- src/getting.rt:123:1
 returns-2 : tie.Need-returns-2
-returns-2 c = ?
+returns-2 c =
+    let a = c .before .before .before .before .before .before .before .before .before .args in
+    let n = a .numbers .now in
+    let b = a .bytes .now in
+    let q = portAt n b (a .k) in
+    let r = rowOf (a .row) in
+    let f = callOf (a .f) in
+    serve-as (a .doer) (Cases.clear-done 0 r f q (sym (c .before .before .before .before .before .before .directed .ensures) ∙ not-false _ (c .before .before .before .before .before .if1 .left))) (c .done .ensures) (put-none n b (a .k) (c .before .before .before .set-number .ensures))
 
 pub clear-spec : {M : Type 1} → statement M
 clear-spec =

@@ -1,3 +1,27 @@
+-- `services::getting::get` meets its contract: the direction, then read or receive by code. Assumes nothing.
+use Prim.Native.Nat.{_≤_, _<_}
+use mathlib.Core.Path.{_≡_, refl, sym, _∙_, ap, subst}
+use native.Mathlib.Omega.{arith}
+use lib.ListN.{length, getD, set}
+use borrow.Author.Tests.{not-true, not-false}
+use Rattle.model.specs.State.{withQueue, valid}
+use Rattle.model.specs.Answers.{toldMessage}
+use Rattle.model.specs.Services.{mark}
+use Rattle.tables.specs.Shown.{rowOf, refreshOf}
+use Rattle.events.specs.Shown.{callOf, toldAs}
+use Rattle.stores.specs.declared.Store.{Store}
+use Rattle.stores.specs.declared.Letter.{Letter}
+use Rattle.stores.specs.Ring.{queueOf, slotOf, dropped, oldestOf, letterOf}
+use Rattle.stores.proofs.Laws.{oldest-head}
+use Rattle.ports.specs.Held
+use Rattle.ports.specs.Held.{storeAt, portAt}
+use Rattle.ports.proofs.Rows.{row-is}
+use Rattle.ports.proofs.Ports.{put-is, count-is, store-queue}
+use Rattle.ports.proofs.Marks.{put-validity, put-none, put-dropped}
+use Rattle.services.specs.Served.{Serves}
+use Rattle.services.proofs.Laws.{sized-of, some-count, rest-is, validity-is, arrival-is}
+use Rattle.services.proofs.Cases
+use Rattle.services.proofs.Cases.{refuse-as, serve-as, some-message, no-message}
 use borrow.Author.Needs.{needs}
 use Rattle.services.proofs.getting.get.Statement.{statement}
 use Rattle.services.proofs.getting.get.Tie as tie
@@ -18,7 +42,14 @@ refusal-requires c κs = search needs
 
 -- src/getting.rt:114:9
 returns : tie.Need-returns
-returns c = ?
+returns c =
+    let a = c .before .before .before .before .before .args in
+    let n = a .numbers .now in
+    let b = a .bytes .now in
+    let q = portAt n b (a .k) in
+    let r = rowOf (a .row) in
+    let f = callOf (a .f) in
+    refuse-as n b (a .k) (a .doer) 5 (c .refusal .result) (Cases.get-wrong (a .time) r f q (sym (c .before .before .directed .ensures) ∙ not-true _ (c .before .if1 .taken))) (c .refusal .ensures)
 
 -- src/getting.rt:117:9
 read-requires : tie.Need-read-requires
@@ -30,7 +61,14 @@ same-length c = search needs
 
 -- src/getting.rt:117:9
 returns-2 : tie.Need-returns-2
-returns-2 c = ?
+returns-2 c =
+    let a = c .before .before .before .before .before .before .before .before .before .before .args in
+    let n = a .numbers .now in
+    let b = a .bytes .now in
+    let q = portAt n b (a .k) in
+    let r = rowOf (a .row) in
+    let f = callOf (a .f) in
+    subst (Serves n b (c .before .before .read .last .0) b (a .k) (a .doer) (c .before .before .read .result)) (sym (Cases.get-read (a .time) r f q (sym (c .before .before .before .before .before .before .before .directed .ensures) ∙ not-false _ (c .before .before .before .before .before .before .if1 .left)) (c .before .before .before .before .if2 .taken))) (c .before .before .read .ensures)
 
 -- src/getting.rt:119:5
 receive-requires : tie.Need-receive-requires
@@ -42,7 +80,14 @@ same-length-2 c = search needs
 
 -- src/getting.rt:100:1
 returns-3 : tie.Need-returns-3
-returns-3 c = ?
+returns-3 c =
+    let a = c .before .before .before .before .before .before .before .before .before .before .args in
+    let n = a .numbers .now in
+    let b = a .bytes .now in
+    let q = portAt n b (a .k) in
+    let r = rowOf (a .row) in
+    let f = callOf (a .f) in
+    subst (Serves n b (c .before .before .receive .last .0) b (a .k) (a .doer) (c .before .before .receive .result)) (sym (Cases.get-receive (a .time) r f q (sym (c .before .before .before .before .before .before .before .directed .ensures) ∙ not-false _ (c .before .before .before .before .before .before .if1 .left)) (c .before .before .before .before .if2 .left))) (c .before .before .receive .ensures)
 
 pub get-spec : {M : Type 1} → statement M
 get-spec =

@@ -1,3 +1,27 @@
+-- `services::getting::receive` meets its contract: 2 where the port is empty, else its oldest message. Assumes nothing.
+use Prim.Native.Nat.{_≤_, _<_}
+use mathlib.Core.Path.{_≡_, refl, sym, _∙_, ap, subst}
+use native.Mathlib.Omega.{arith}
+use lib.ListN.{length, getD, set}
+use borrow.Author.Tests.{not-true, not-false}
+use Rattle.model.specs.State.{withQueue, valid}
+use Rattle.model.specs.Answers.{toldMessage}
+use Rattle.model.specs.Services.{mark}
+use Rattle.tables.specs.Shown.{rowOf, refreshOf}
+use Rattle.events.specs.Shown.{callOf, toldAs}
+use Rattle.stores.specs.declared.Store.{Store}
+use Rattle.stores.specs.declared.Letter.{Letter}
+use Rattle.stores.specs.Ring.{queueOf, slotOf, dropped, oldestOf, letterOf}
+use Rattle.stores.proofs.Laws.{oldest-head}
+use Rattle.ports.specs.Held
+use Rattle.ports.specs.Held.{storeAt, portAt}
+use Rattle.ports.proofs.Rows.{row-is}
+use Rattle.ports.proofs.Ports.{put-is, count-is, store-queue}
+use Rattle.ports.proofs.Marks.{put-validity, put-none, put-dropped}
+use Rattle.services.specs.Served.{Serves}
+use Rattle.services.proofs.Laws.{sized-of, some-count, rest-is, validity-is, arrival-is}
+use Rattle.services.proofs.Cases
+use Rattle.services.proofs.Cases.{refuse-as, serve-as, some-message, no-message}
 use borrow.Author.Needs.{needs}
 use Rattle.services.proofs.getting.receive.Statement.{statement}
 use Rattle.services.proofs.getting.receive.Tie as tie
@@ -22,11 +46,22 @@ same-length c = search needs
 
 -- src/getting.rt:94:9
 returns : tie.Need-returns
-returns c = ?
+returns c =
+    let a = c .before .before .before .before .before .before .args in
+    let n = a .numbers .now in
+    let b = a .bytes .now in
+    let q = portAt n b (a .k) in
+    let none = no-message (q .queue) (sym (count-is n b (a .k)) ∙ sym (c .before .before .number .ensures) ∙ c .before .if1 .taken) in
+    refuse-as n b (a .k) (a .doer) 2 (c .refusal .result) (Cases.take-none q none) (c .refusal .ensures)
 
 -- src/getting.rt:96:24
 take-oldest-requires : tie.Need-take-oldest-requires
-take-oldest-requires c κs = ?
+take-oldest-requires c κs =
+    let a = c .before .before .before .before .before .before .args in
+    let n = a .numbers .now in
+    let b = a .bytes .now in
+    let q = portAt n b (a .k) in
+    (c .before .before .before .before .before .before .pre, λ z. c .before .if1 .left (c .before .before .number .ensures ∙ count-is n b (a .k) ∙ ap length z))
 
 -- src/getting.rt:96:5
 told-message-requires : tie.Need-told-message-requires
@@ -38,7 +73,14 @@ same-length-2 c = search needs
 
 -- src/getting.rt:89:1
 returns-2 : tie.Need-returns-2
-returns-2 c = ?
+returns-2 c =
+    let a = c .before .before .before .before .before .before .before .before .before .before .args in
+    let n = a .numbers .now in
+    let b = a .bytes .now in
+    let q = portAt n b (a .k) in
+    let found = some-message (q .queue) (λ z. c .before .before .before .before .before .if1 .left (c .before .before .before .before .before .before .number .ensures ∙ count-is n b (a .k) ∙ z)) in
+    let told = c .before .before .before .take-oldest .ensures (found .0) (found .1) (found .2) in
+    serve-as (a .doer) (Cases.take-some q (found .0) (found .1) (found .2)) (c .told-message .ensures (found .0) (told .0)) (told .1)
 
 pub receive-spec : {M : Type 1} → statement M
 receive-spec =

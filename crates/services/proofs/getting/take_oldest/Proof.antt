@@ -1,3 +1,27 @@
+-- `services::getting::take_oldest` meets its contract: the letter of the oldest message, and the store without it. Assumes nothing.
+use Prim.Native.Nat.{_≤_, _<_}
+use mathlib.Core.Path.{_≡_, refl, sym, _∙_, ap, subst}
+use native.Mathlib.Omega.{arith}
+use lib.ListN.{length, getD, set}
+use borrow.Author.Tests.{not-true, not-false}
+use Rattle.model.specs.State.{withQueue, valid}
+use Rattle.model.specs.Answers.{toldMessage}
+use Rattle.model.specs.Services.{mark}
+use Rattle.tables.specs.Shown.{rowOf, refreshOf}
+use Rattle.events.specs.Shown.{callOf, toldAs}
+use Rattle.stores.specs.declared.Store.{Store}
+use Rattle.stores.specs.declared.Letter.{Letter}
+use Rattle.stores.specs.Ring.{queueOf, slotOf, dropped, oldestOf, letterOf}
+use Rattle.stores.proofs.Laws.{oldest-head}
+use Rattle.ports.specs.Held
+use Rattle.ports.specs.Held.{storeAt, portAt}
+use Rattle.ports.proofs.Rows.{row-is}
+use Rattle.ports.proofs.Ports.{put-is, count-is, store-queue}
+use Rattle.ports.proofs.Marks.{put-validity, put-none, put-dropped}
+use Rattle.services.specs.Served.{Serves}
+use Rattle.services.proofs.Laws.{sized-of, some-count, rest-is, validity-is, arrival-is}
+use Rattle.services.proofs.Cases
+use Rattle.services.proofs.Cases.{refuse-as, serve-as, some-message, no-message}
 use borrow.Author.Needs.{needs}
 use Rattle.services.proofs.getting.take_oldest.Statement.{statement}
 use Rattle.services.proofs.getting.take_oldest.Tie as tie
@@ -14,7 +38,9 @@ take-store-requires c κs = search needs
 
 -- src/getting.rt:56:9
 drop-oldest-requires : tie.Need-drop-oldest-requires
-drop-oldest-requires c κs = ?
+drop-oldest-requires c κs =
+    let a = c .before .before .before .before .args in
+    subst (λ (st : Store). 0 < st .count) (sym (c .take-store .ensures)) (some-count (a .numbers .now) (a .bytes .now) (a .k) (c .before .before .before .before .pre .1))
 
 -- src/getting.rt:57:5
 set-number-requires : tie.Need-set-number-requires
@@ -26,7 +52,11 @@ set-number-requires-2 c κs = search needs
 
 -- src/getting.rt:59:5
 oldest-requires : tie.Need-oldest-requires
-oldest-requires c κs = ?
+oldest-requires c κs =
+    let a = c .before .before .before .before .before .before .before .before .before .before .before .before .before .args in
+    let some = some-count (a .numbers .now) (a .bytes .now) (a .k) (c .before .before .before .before .before .before .before .before .before .before .before .before .before .pre .1) in
+    subst (λ (st : Store). (0 < st .count) × (getD (st .lengths) (slotOf st 0) 0 ≤ 64)) (sym (c .before .before .before .before .before .before .before .before .before .take-store .ensures))
+    (some, sized-of (a .numbers .now) (a .bytes .now) (a .k) (a .row) (c .before .before .before .before .before .before .before .before .before .before .before .before .before .pre .0) .short 0 some)
 
 -- src/getting.rt:50:1
 same-length : tie.Need-same-length
@@ -34,7 +64,22 @@ same-length c = search needs
 
 -- src/getting.rt:50:1
 returns : tie.Need-returns
-returns c = ?
+returns c = λ m rest e.
+    let a = c .before .before .before .before .before .before .before .before .before .before .before .before .before .before .args in
+    let n = a .numbers .now in
+    let b = a .bytes .now in
+    let q = portAt n b (a .k) in
+    let st = storeAt n b (a .k) in
+    let some = some-count n b (a .k) (c .before .before .before .before .before .before .before .before .before .before .before .before .before .before .pre .1) in
+    let held = store-queue n b (a .k) ∙ e in
+    let left = c .before .before .before .before .before .before .before .before .before .drop-oldest .ensures ∙ ap dropped (c .before .before .before .before .before .before .before .before .before .before .take-store .ensures) in (
+      c .oldest .ensures ∙ ap oldestOf (c .before .before .before .before .before .before .before .before .before .before .take-store .ensures) ∙ oldest-head st some m rest held,
+      put-is
+          (put-dropped n b (a .k)
+          (row-is (c .before .before .before .before .before .before .before .set-number .ensures) (ap (λ (s : Store). set (Held.rowOf n (a .k)) 3 (s .oldest)) left))
+          (row-is (c .before .before .before .set-number2 .ensures) (ap (λ (s : Store). set (Held.rowOf (c .before .before .before .before .before .before .before .set-number .last .0) (a .k)) 4 (s .count)) left)))
+          (ap (withQueue q) (rest-is st some m rest held)),
+    )
 
 pub take-oldest-spec : {M : Type 1} → statement M
 take-oldest-spec =

@@ -1,3 +1,8 @@
+-- `services::getting::told_message` meets its contract. Assumes nothing.
+use mathlib.Core.Path.{ap}
+use borrow.Author.Needs.{needs}
+use Rattle.services.proofs.Laws.{handing}
+use Rattle.events.specs.Shown.{toldAs}
 use Rattle.services.proofs.getting.told_message.Statement.{statement}
 use Rattle.services.proofs.getting.told_message.Tie as tie
 use Rattle.services.proofs.getting.told_message.Reads as reads
@@ -5,7 +10,8 @@ use Rattle.services.proofs.getting.told_message.Lts as lts
 
 -- src/getting.rt:21:1
 returns : tie.Need-returns
-returns c = ?
+unfolding toldAs
+returns c = λ m e. ap (handing (c .before .args .doer) (c .before .args .validity)) e
 
 pub told-message-spec : {M : Type 1} → statement M
 told-message-spec = tie.close (tie.spec returns)

@@ -1,3 +1,8 @@
+-- `services::getting::validity` meets its contract: the test of the age. Assumes nothing.
+use mathlib.Core.Path.{sym, ap, _∙_}
+use lib.Dec.{leb}
+use borrow.Author.Tests.{le-leb, lt-leb}
+use Rattle.model.specs.Services.{mark}
 use borrow.Author.Needs.{needs}
 use Rattle.services.proofs.getting.validity.Statement.{statement}
 use Rattle.services.proofs.getting.validity.Tie as tie
@@ -11,11 +16,11 @@ age-requires c κs = search needs
 
 -- src/getting.rt:39:1
 returns : tie.Need-returns
-returns c = ?
+returns c = sym (ap mark (ap (λ x. leb x (c .before .before .args .refresh)) (sym (c .before .age .ensures)) ∙ le-leb (c .before .age .result) (c .before .before .args .refresh) (c .if1 .taken)))
 
 -- src/getting.rt:39:1
 returns-2 : tie.Need-returns-2
-returns-2 c = ?
+returns-2 c = sym (ap mark (ap (λ x. leb x (c .before .before .args .refresh)) (sym (c .before .age .ensures)) ∙ lt-leb (c .before .age .result) (c .before .before .args .refresh) (c .if1 .left)))
 
 pub validity-spec : {M : Type 1} → statement M
 validity-spec = tie.close (tie.spec age-requires returns returns-2)

@@ -1,3 +1,6 @@
+-- `services::telling::count_told` meets its contract. Assumes nothing.
+use borrow.Author.Tests.{eq-eqb, ne-eqb}
+use borrow.Author.Needs.{needs}
 use Rattle.services.proofs.telling.count_told.Statement.{statement}
 use Rattle.services.proofs.telling.count_told.Tie as tie
 use Rattle.services.proofs.telling.count_told.Reads as reads
@@ -5,11 +8,11 @@ use Rattle.services.proofs.telling.count_told.Lts as lts
 
 -- src/telling.rt:22:1
 returns : tie.Need-returns
-returns c = ?
+returns c = rw (eq-eqb (c .before .args .direction) 0 (c .if1 .taken))
 
 -- src/telling.rt:22:1
 returns-2 : tie.Need-returns-2
-returns-2 c = ?
+returns-2 c = rw (ne-eqb (c .before .args .direction) 0 (c .if1 .left))
 
 pub count-told-spec : {M : Type 1} → statement M
 count-told-spec = tie.close (tie.spec returns returns-2)

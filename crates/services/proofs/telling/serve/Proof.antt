@@ -1,3 +1,27 @@
+-- `services::telling::serve` meets its contract, by code. Assumes nothing.
+use Prim.Native.Nat.{_≤_, _<_}
+use mathlib.Core.Path.{_≡_, refl, sym, _∙_, ap, subst}
+use native.Mathlib.Omega.{arith}
+use lib.ListN.{length, getD, set}
+use borrow.Author.Tests.{not-true, not-false}
+use Rattle.model.specs.State.{withQueue, valid}
+use Rattle.model.specs.Answers.{toldMessage}
+use Rattle.model.specs.Services.{mark}
+use Rattle.tables.specs.Shown.{rowOf, refreshOf}
+use Rattle.events.specs.Shown.{callOf, toldAs}
+use Rattle.stores.specs.declared.Store.{Store}
+use Rattle.stores.specs.declared.Letter.{Letter}
+use Rattle.stores.specs.Ring.{queueOf, slotOf, dropped, oldestOf, letterOf}
+use Rattle.stores.proofs.Laws.{oldest-head}
+use Rattle.ports.specs.Held
+use Rattle.ports.specs.Held.{storeAt, portAt}
+use Rattle.ports.proofs.Rows.{row-is}
+use Rattle.ports.proofs.Ports.{put-kept}
+use Rattle.ports.proofs.Marks.{put-validity, put-none, put-dropped}
+use Rattle.services.specs.Served.{Serves}
+use Rattle.services.proofs.Laws.{sized-of, some-count, rest-is, validity-is, arrival-is}
+use Rattle.services.proofs.Cases
+use Rattle.services.proofs.Cases.{refuse-as, serve-as, some-message, no-message}
 use borrow.Author.Needs.{needs}
 use Rattle.services.proofs.telling.serve.Statement.{statement}
 use Rattle.services.proofs.telling.serve.Tie as tie
@@ -22,7 +46,15 @@ same-length-2 c = search needs
 
 -- src/telling.rt:68:9
 returns : tie.Need-returns
-returns c = ?
+returns c =
+    let a = c .before .before .before .before .before .before .before .before .before .before .before .args in
+    let n = a .numbers .now in
+    let b = a .bytes .now in
+    let q = portAt n b (a .k) in
+    let r = rowOf (a .row) in
+    let e = a .event .now in
+    let f = callOf (a .f) in
+    subst (Serves n b (c .before .before .before .before .put .last .0) (c .before .before .before .before .put .last .1 .0) (a .k) (a .doer) (c .before .before .before .before .put .result)) (sym (Cases.serve-write (a .time) r e f q (c .before .before .before .before .before .before .before .if1 .taken))) (c .before .before .before .before .put .ensures)
 
 -- src/telling.rt:71:9
 put-requires-2 : tie.Need-put-requires-2
@@ -38,7 +70,15 @@ same-length-4 c = search needs
 
 -- src/telling.rt:71:9
 returns-2 : tie.Need-returns-2
-returns-2 c = ?
+returns-2 c =
+    let a = c .before .before .before .before .before .before .before .before .before .before .before .before .args in
+    let n = a .numbers .now in
+    let b = a .bytes .now in
+    let q = portAt n b (a .k) in
+    let r = rowOf (a .row) in
+    let e = a .event .now in
+    let f = callOf (a .f) in
+    subst (Serves n b (c .before .before .before .before .put2 .last .0) (c .before .before .before .before .put2 .last .1 .0) (a .k) (a .doer) (c .before .before .before .before .put2 .result)) (sym (Cases.serve-send (a .time) r e f q (c .before .before .before .before .before .before .before .before .if1 .left) (c .before .before .before .before .before .before .before .if2 .taken))) (c .before .before .before .before .put2 .ensures)
 
 -- src/telling.rt:74:9
 get-requires : tie.Need-get-requires
@@ -54,7 +94,15 @@ same-length-6 c = search needs
 
 -- src/telling.rt:74:9
 returns-3 : tie.Need-returns-3
-returns-3 c = ?
+returns-3 c =
+    let a = c .before .before .before .before .before .before .before .before .before .before .before .args in
+    let n = a .numbers .now in
+    let b = a .bytes .now in
+    let q = portAt n b (a .k) in
+    let r = rowOf (a .row) in
+    let e = a .event .now in
+    let f = callOf (a .f) in
+    subst (Serves n b (c .before .before .get .last .0) (b) (a .k) (a .doer) (c .before .before .get .result)) (sym (Cases.serve-read (a .time) r e f q (c .before .before .before .before .before .before .before .if1 .left) (c .before .before .before .before .before .before .if2 .left) (c .before .before .before .before .before .if3 .taken))) (c .before .before .get .ensures)
 
 -- src/telling.rt:77:9
 get-requires-2 : tie.Need-get-requires-2
@@ -70,7 +118,15 @@ same-length-8 c = search needs
 
 -- src/telling.rt:77:9
 returns-4 : tie.Need-returns-4
-returns-4 c = ?
+returns-4 c =
+    let a = c .before .before .before .before .before .before .before .before .before .before .before .before .args in
+    let n = a .numbers .now in
+    let b = a .bytes .now in
+    let q = portAt n b (a .k) in
+    let r = rowOf (a .row) in
+    let e = a .event .now in
+    let f = callOf (a .f) in
+    subst (Serves n b (c .before .before .get2 .last .0) (b) (a .k) (a .doer) (c .before .before .get2 .result)) (sym (Cases.serve-receive (a .time) r e f q (c .before .before .before .before .before .before .before .before .if1 .left) (c .before .before .before .before .before .before .before .if2 .left) (c .before .before .before .before .before .before .if3 .left) (c .before .before .before .before .before .if4 .taken))) (c .before .before .get2 .ensures)
 
 -- src/telling.rt:80:9
 clear-requires : tie.Need-clear-requires
@@ -86,7 +142,15 @@ same-length-10 c = search needs
 
 -- src/telling.rt:80:9
 returns-5 : tie.Need-returns-5
-returns-5 c = ?
+returns-5 c =
+    let a = c .before .before .before .before .before .before .before .before .before .before .before .before .before .args in
+    let n = a .numbers .now in
+    let b = a .bytes .now in
+    let q = portAt n b (a .k) in
+    let r = rowOf (a .row) in
+    let e = a .event .now in
+    let f = callOf (a .f) in
+    subst (Serves n b (c .before .before .clear .last .0) (b) (a .k) (a .doer) (c .before .before .clear .result)) (sym (Cases.serve-clear (a .time) r e f q (c .before .before .before .before .before .before .before .before .before .if1 .left) (c .before .before .before .before .before .before .before .before .if2 .left) (c .before .before .before .before .before .before .before .if3 .left) (c .before .before .before .before .before .before .if4 .left) (c .before .before .before .before .before .if5 .taken))) (c .before .before .clear .ensures)
 
 -- src/telling.rt:82:5
 status-requires : tie.Need-status-requires
@@ -102,7 +166,15 @@ same-length-12 c = search needs
 
 -- src/telling.rt:52:1
 returns-6 : tie.Need-returns-6
-returns-6 c = ?
+returns-6 c =
+    let a = c .before .before .before .before .before .before .before .before .before .before .before .args in
+    let n = a .numbers .now in
+    let b = a .bytes .now in
+    let q = portAt n b (a .k) in
+    let r = rowOf (a .row) in
+    let e = a .event .now in
+    let f = callOf (a .f) in
+    serve-as (a .doer) (Cases.serve-status (a .time) r e f q (c .before .before .before .before .before .before .before .if1 .left) (c .before .before .before .before .before .before .if2 .left) (c .before .before .before .before .before .if3 .left) (c .before .before .before .before .if4 .left) (c .before .before .before .if5 .left)) (c .status .ensures) (put-kept n b (a .k))
 
 pub serve-spec : {M : Type 1} → statement M
 serve-spec =

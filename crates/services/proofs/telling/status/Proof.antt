@@ -1,3 +1,12 @@
+-- `services::telling::status` meets its contract, by the case of the row. Assumes nothing.
+use mathlib.Core.Path.{_≡_, refl, sym, _∙_, ap}
+use native.Mathlib.Omega.{arith}
+use lib.ListN.{length, getD}
+use Rattle.model.specs.Services.{status}
+use Rattle.events.specs.Shown.{toldAs}
+use Rattle.ports.specs.Held.{portAt}
+use Rattle.ports.proofs.Ports.{count-is}
+use Rattle.services.proofs.Laws.{validity-is, status-sampling, status-queuing}
 use borrow.Author.Needs.{needs}
 use Rattle.services.proofs.telling.status.Statement.{statement}
 use Rattle.services.proofs.telling.status.Tie as tie
@@ -21,7 +30,12 @@ number-requires c κs = search needs
 
 -- src/telling.rt:40:26
 cast-a : tie.Need-cast-a
-cast-a c = ?
+cast-a c =
+    let a = c .before .before .before .before .before .before .before .args in
+    let n = a .numbers .now in
+    let b = a .bytes .now in
+    let q = portAt n b (a .k) in
+    record { fits = omega (arith, c .number .ensures, validity-is n b (a .k), c .before .before .before .before .before .before .before .pre .port .judged) }
 
 -- src/telling.rt:43:27
 enum-known-transfer-2 : tie.Need-enum-known-transfer-2
@@ -37,11 +51,25 @@ count-told-requires c κs = search needs
 
 -- src/telling.rt:29:1
 returns : tie.Need-returns
-returns c = ?
+unfolding toldAs
+returns c =
+    let a = c .before .before .before .before .before .before .before .args in
+    let n = a .numbers .now in
+    let b = a .bytes .now in
+    let q = portAt n b (a .k) in
+    let told = c .before .before .transfer .given in
+    rw (status-sampling (a .row) (told .0 .0) q (told .1), validity-is n b (a .k), c .number .ensures, c .before .before .before .before .done .ensures)
 
 -- src/telling.rt:29:1
 returns-2 : tie.Need-returns-2
-returns-2 c = ?
+unfolding toldAs
+returns-2 c =
+    let a = c .before .before .before .before .before .before .before .before .args in
+    let n = a .numbers .now in
+    let b = a .bytes .now in
+    let q = portAt n b (a .k) in
+    let told = c .before .before .before .transfer2 .given in
+    rw (status-queuing (a .row) (told .0 .0) q (told .1), ← (count-is n b (a .k)), c .count-told .ensures, c .before .number2 .ensures, c .before .before .before .before .before .done .ensures)
 
 pub status-spec : {M : Type 1} → statement M
 status-spec =
