@@ -1,0 +1,182 @@
+-- From what a service at one port gives to what a call gives; and the parts of a call over accepted tables.
+-- Assumes nothing.
+use Prim.Native.Nat.{ℕ, suc, _+_, _-_, _*_, _≤_, _<_}
+use mathlib.Core.Path.{_≡_, refl, sym, _∙_, ap, ap₂, subst}
+use mathlib.Core.Bool.{Bool, true, false, _&&_}
+use mathlib.Core.List.{List}
+use native.Mathlib.Omega.{arith}
+use lib.Dec.{eqb}
+use lib.ListN.{length, getD}
+use borrow.Author.Tests.{le-leb, lt-leb, eq-eqb, ne-eqb}
+use Rattle.model.specs.Words.{byte, between}
+use Rattle.model.specs.Tables.{Tables, records, windows, Row, rowAt, row}
+use Rattle.model.specs.Tables.{ports as portCount}
+use Rattle.model.specs.State.{Clock, Port, State, port, withPort, isCreated}
+use Rattle.model.specs.Events.{Event, Call, need}
+use Rattle.model.specs.Services.{Reply, refuse, done, Served, refuses, serves, atPort, own, useOwn, serve, likeRow}
+use Rattle.model.specs.Step.{stateOf}
+use Rattle.model.proofs.Tests.{both-left, both-right, between-low, between-high}
+use Rattle.model.proofs.Accepted.{Accepted, accepted}
+use Rattle.model.proofs.Rows.{RowRanges}
+use Rattle.model.proofs.Ranges.{PortRanged}
+use Rattle.tables.specs.Shown.{decoded}
+use Rattle.tables.specs.Shown as Shown
+use Rattle.tables.specs.declared.PortRow.{PortRow}
+use Rattle.tables.specs.declared.Transfer.the-variants.{Sampling, Queuing}
+use Rattle.tables.proofs.Decoded as Decoded
+use Rattle.events.specs.declared.answers.Answer.{Answer}
+use Rattle.events.specs.Shown.{refusedAs, toldAs, replied}
+use Rattle.ports.specs.Held.{rowOf, portAt, portsOf, PortPut}
+use Rattle.ports.proofs.Ports.{ports-at, ports-put}
+use Rattle.services.specs.declared.Layout.{Layout}
+use Rattle.services.specs.Did.{Laid, Held, shown, Does}
+use Rattle.services.specs.Served.{Lent, Fits, Serves}
+use Rattle.calls.specs.Called.{Rows, ownAt, periodOf}
+
+-- accepted tables: where the rows lie, and that there are few
+pub rows-of : {t : Tables} {lay : Layout} {numbers bytes : List ℕ} → Held t lay numbers bytes → Rows t lay
+rows-of {t} h =
+    let a = accepted t (h .accepted) in
+    record { laid = h .laid; inside = omega (arith, a .portsAfter, a .channelsAfter); few = a .fewPorts }
+
+-- a refusal leaves the state
+pub refused-does : (s : State) (doer code : ℕ) (r : Answer) {reply : Reply} → reply ≡ refuse code → r ≡ refusedAs code doer → Does s reply doer r s
+refused-does s doer code r {reply} e a =
+    subst (λ x. Does s x doer r s) (sym e) (record { answered = a; left = refl })
+
+-- what is done is told, and leaves its state
+pub done-does : {s s' after : State} {doer : ℕ} {r : Answer} {reply : Reply} (v : _) → reply ≡ done v s' → r ≡ toldAs doer v → after ≡ s' → Does s reply doer r after
+done-does {s} {s'} {after} {doer} {r} v e a l = subst (λ x. Does s x doer r after) (sym e) (record { answered = a; left = l })
+
+-- the port of the shown state is the arrays' port
+pub shown-port : (t : Tables) (clock : Clock) (modes numbers bytes : List ℕ) (k : ℕ) → k < portCount t → port (shown t clock modes numbers bytes) k ≡ portAt numbers bytes k
+shown-port t clock modes numbers bytes k h = ports-at numbers bytes (portCount t) k h
+
+-- a port put is that port of the shown state replaced
+pub shown-put : (t : Tables) (clock : Clock) (modes : List ℕ) {numbers bytes numbers' bytes' : List ℕ} {k : ℕ} {q : Port} → k < portCount t → PortPut numbers bytes numbers' bytes' k q
+    → shown t clock modes numbers' bytes' ≡ withPort (shown t clock modes numbers bytes) k q
+shown-put t clock modes h p = ap (λ ps. record { clock = clock; modes = modes; ports = ps }) (ports-put (portCount t) h p)
+
+-- a service at one port is a reply at that port
+pub serves-does :
+    (t : Tables) (clock : Clock) (modes numbers bytes numbers' bytes' : List ℕ) (k doer : ℕ) (r : Answer) (x : Served) → k < portCount t
+    → Serves numbers bytes numbers' bytes' k doer r x
+    → Does (shown t clock modes numbers bytes) (atPort (shown t clock modes numbers bytes) k x) doer r (shown t clock modes numbers' bytes')
+serves-does t clock modes numbers bytes numbers' bytes' k doer r (refuses code) h s =
+    record { answered = s .answered; left = ap₂ (shown t clock modes) (s .numbersKept) (s .bytesKept) }
+serves-does t clock modes numbers bytes numbers' bytes' k doer r (serves v q) h s = record { answered = s .0; left = shown-put t clock modes h (s .1) }
+
+-- the row of port k, decoded, shows the model's row; and port k fits it
+pub row-shown : (t : Tables) → Accepted t → (k : ℕ) → k < portCount t → Shown.rowOf (decoded (row t k)) ≡ row t k
+row-shown t a k h = Decoded.shown (row t k) (a .rows k h)
+
+pub fits-of : {t : Tables} {lay : Layout} {numbers bytes : List ℕ} → Held t lay numbers bytes → (k : ℕ) → k < portCount t → (r : PortRow) → r ≡ decoded (row t k) → Fits numbers bytes k r
+fits-of {t} {lay} {numbers} {bytes} h k l r e =
+    let a = accepted t (h .accepted) in
+    let shows : Shown.rowOf r ≡ row t k = ap Shown.rowOf e ∙ row-shown t a k l in
+    record {
+      lent = record { rows = h .rows; blocks = h .blocks; there = omega (arith, a .fewPorts) };
+      ranges = subst RowRanges (sym shows) (a .rows k l);
+      port = subst (λ x. PortRanged x (portAt numbers bytes k)) (sym shows) (h .each k l);
+    }
+
+pub created-is : (numbers bytes : List ℕ) (k : ℕ) → portAt numbers bytes k .created ≡ getD (rowOf numbers k) 0 0
+unfolding portAt
+created-is numbers bytes k = refl
+
+-- the test of an own port in the shown state reads the created mark where it stands
+pub own-shown : (t : Tables) (clock : Clock) (modes numbers bytes : List ℕ) (p : ℕ) (f : Call) → own t (shown t clock modes numbers bytes) p f ≡ ownAt t numbers p f
+unfolding own ownAt
+own-shown t clock modes numbers bytes p f = go (between 1 (portCount t) (f .id)) refl
+  where
+    k : ℕ
+    k = f .id - 1
+
+    b : Bool
+    b = eqb (row t k .owner) p
+
+    c : Bool
+    c = eqb (row t k .mode) (need (f .code) .mode)
+
+    s : State
+    s = shown t clock modes numbers bytes
+
+    go : (x : Bool) → between 1 (portCount t) (f .id) ≡ x → (between 1 (portCount t) (f .id) && b && c && isCreated (port s k)) ≡ (between 1 (portCount t) (f .id) && b && c && eqb (getD (rowOf numbers k) 0 0) 1)
+    go false e = rw e
+    go true e =
+        let inside : k < portCount t = omega (arith, between-low 1 (portCount t) (f .id) e, between-high 1 (portCount t) (f .id) e) in
+        ap (λ q. between 1 (portCount t) (f .id) && b && c && isCreated q) (shown-port t clock modes numbers bytes k inside)
+        ∙ ap (λ m. between 1 (portCount t) (f .id) && b && c && eqb m 1) (created-is numbers bytes k)
+
+-- the parts of that test, in their order
+module _ (t : Tables) (numbers : List ℕ) (p : ℕ) (f : Call) where
+  pub own-none : f .id < 1 → ownAt t numbers p f ≡ false
+  unfolding ownAt
+  own-none h = rw (lt-leb 1 (f .id) h)
+
+  pub own-past : 1 ≤ f .id → portCount t < f .id → ownAt t numbers p f ≡ false
+  unfolding ownAt
+  own-past l h = rw (le-leb 1 (f .id) l, lt-leb (f .id) (portCount t) h)
+
+  module _ (l : 1 ≤ f .id) (h : f .id ≤ portCount t) where
+    pub own-other : (byte t (48 * (windows t + (f .id - 1)) + 1) ≡ p → ⊥) → ownAt t numbers p f ≡ false
+    unfolding ownAt rowAt
+    own-other o = rw (le-leb 1 (f .id) l, le-leb (f .id) (portCount t) h, ne-eqb (byte t (48 * (windows t + (f .id - 1)) + 1)) p o)
+
+    module _ (o : byte t (48 * (windows t + (f .id - 1)) + 1) ≡ p) where
+      pub own-mode : (byte t (48 * (windows t + (f .id - 1)) + 2) ≡ need (f .code) .mode → ⊥) → ownAt t numbers p f ≡ false
+      unfolding ownAt rowAt
+      own-mode m =
+          rw (le-leb 1 (f .id) l, le-leb (f .id) (portCount t) h, eq-eqb (byte t (48 * (windows t + (f .id - 1)) + 1)) p o, ne-eqb (byte t (48 * (windows t + (f .id - 1)) + 2)) (need (f .code) .mode) m)
+
+      pub own-mark : byte t (48 * (windows t + (f .id - 1)) + 2) ≡ need (f .code) .mode → ownAt t numbers p f ≡ eqb (getD (rowOf numbers (f .id - 1)) 0 0) 1
+      unfolding ownAt rowAt
+      own-mark m =
+          rw (le-leb 1 (f .id) l, le-leb (f .id) (portCount t) h, eq-eqb (byte t (48 * (windows t + (f .id - 1)) + 1)) p o, eq-eqb (byte t (48 * (windows t + (f .id - 1)) + 2)) (need (f .code) .mode) m)
+
+  -- an own port is one of the tables'
+  pub own-there : ownAt t numbers p f ≡ true → f .id - 1 < portCount t
+  unfolding ownAt
+  own-there e =
+      let a = between 1 (portCount t) (f .id) in
+      let b = eqb (row t (f .id - 1) .owner) p in
+      let c = eqb (row t (f .id - 1) .mode) (need (f .code) .mode) in
+      let id = both-left a b (both-left (a && b) c (both-left (a && b && c) (eqb (getD (rowOf numbers (f .id - 1)) 0 0) 1) e)) in
+      omega (arith, between-low 1 (portCount t) (f .id) id, between-high 1 (portCount t) (f .id) id)
+
+  pub own-some : ownAt t numbers p f ≡ true → 1 ≤ f .id
+  unfolding ownAt
+  own-some e =
+      let a = between 1 (portCount t) (f .id) in
+      let b = eqb (row t (f .id - 1) .owner) p in
+      let c = eqb (row t (f .id - 1) .mode) (need (f .code) .mode) in
+      between-low 1 (portCount t) (f .id) (both-left a b (both-left (a && b) c (both-left (a && b && c) (eqb (getD (rowOf numbers (f .id - 1)) 0 0) 1) e)))
+
+pub use-refused : (t : Tables) (time : ℕ) (s : State) (p : ℕ) (e : Event) (f : Call) → own t s p f ≡ false → useOwn t time s p e f ≡ refuse 3
+unfolding useOwn
+use-refused t time s p e f o = rw o
+
+pub use-served : (t : Tables) (time : ℕ) (s : State) (p : ℕ) (e : Event) (f : Call) → own t s p f ≡ true
+    → useOwn t time s p e f ≡ atPort s (f .id - 1) (serve time (row t (f .id - 1)) e f (port s (f .id - 1)))
+unfolding useOwn
+use-served t time s p e f o = rw o
+
+-- create: the row's number, and the test of likeness
+pub period-sampling : (row : PortRow) (d : ℕ) → row .transfer ≡ Sampling d → periodOf (Shown.rowOf row) ≡ d
+period-sampling row d e = rw e
+
+pub period-queuing : (row : PortRow) (d : ℕ) → row .transfer ≡ Queuing d → periodOf (Shown.rowOf row) ≡ d
+period-queuing row d e = rw e
+
+module _ (r : Row) (f : Call) where
+  pub unlike-size : (f .size ≡ r .largest → ⊥) → likeRow r f ≡ false
+  unfolding likeRow
+  unlike-size a = rw (ne-eqb (f .size) (r .largest) a)
+
+  pub unlike-direction : f .size ≡ r .largest → (f .choice ≡ r .direction → ⊥) → likeRow r f ≡ false
+  unfolding likeRow
+  unlike-direction a b = rw (eq-eqb (f .size) (r .largest) a, ne-eqb (f .choice) (r .direction) b)
+
+  pub like-number : f .size ≡ r .largest → f .choice ≡ r .direction → likeRow r f ≡ eqb (f .number) (periodOf r)
+  unfolding likeRow
+  like-number a b = rw (eq-eqb (f .size) (r .largest) a, eq-eqb (f .choice) (r .direction) b)

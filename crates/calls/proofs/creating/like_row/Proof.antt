@@ -1,0 +1,54 @@
+-- `calls::creating::like_row` meets its contract: the tests in their order. Assumes nothing.
+use Prim.Native.Nat.{_+_, _*_, _-_, _≤_, _<_}
+use mathlib.Core.Path.{_≡_, refl, sym, _∙_, ap, subst}
+use native.Mathlib.Omega.{arith}
+use borrow.Author.Tests.{not-true, not-false, eq-eqb, ne-eqb}
+use lib.Dec.{eqb}
+use lib.ListN.{getD}
+use Rattle.model.specs.Words.{byte}
+use Rattle.model.specs.Tables.{windows, row}
+use Rattle.model.specs.Tables.{ports as portCount}
+use Rattle.model.specs.Events.{need}
+use Rattle.model.specs.Services.{useOwn, atPort, serve, refuse, likeRow}
+use Rattle.model.proofs.Accepted.{accepted}
+use Rattle.tables.specs.Shown as Shown
+use Rattle.events.specs.Shown.{callOf}
+use Rattle.ports.specs.Held.{rowOf, portAt}
+use Rattle.services.specs.Did.{Does, shown}
+use Rattle.services.specs.Served.{Serves}
+use Rattle.services.proofs.Cases.{refuse-as, serve-as}
+use Rattle.calls.proofs.Laws
+use borrow.Author.Needs.{needs}
+use Rattle.calls.proofs.creating.like_row.Statement.{statement}
+use Rattle.calls.proofs.creating.like_row.Tie as tie
+use Rattle.calls.proofs.creating.like_row.Reads as reads
+use Rattle.calls.proofs.creating.like_row.Lts as lts
+use Rattle.calls.proofs.creating.period.Reads as period-reads
+
+-- src/creating.rt:38:9
+returns : tie.Need-returns
+returns c =
+    let r = Shown.rowOf (c .before .before .before .args .row) in
+    let f = callOf (c .before .before .before .args .f) in
+    sym (Laws.unlike-size r f (c .if1 .taken))
+
+-- src/creating.rt:41:9
+returns-2 : tie.Need-returns-2
+returns-2 c =
+    let r = Shown.rowOf (c .before .before .before .before .before .before .args .row) in
+    let f = callOf (c .before .before .before .before .before .before .args .f) in
+    sym (Laws.unlike-direction r f (c .before .before .before .if1 .left) (c .if2 .taken))
+
+-- src/creating.rt:43:17
+period-requires : tie.Need-period-requires
+period-requires c κs = search needs
+
+-- src/creating.rt:34:1
+returns-3 : tie.Need-returns-3
+returns-3 c =
+    let r = Shown.rowOf (c .before .before .before .before .before .before .before .before .args .row) in
+    let f = callOf (c .before .before .before .before .before .before .before .before .args .f) in
+    rw (c .before .period .ensures) (sym (Laws.like-number r f (c .before .before .before .before .before .if1 .left) (c .before .before .if2 .left)))
+
+pub like-row-spec : {M : Type 1} → statement M
+like-row-spec = tie.close (tie.spec returns returns-2 period-requires returns-3)

@@ -1,0 +1,44 @@
+-- `calls::creating::period` meets its contract, by the case of the row. Assumes nothing.
+use Prim.Native.Nat.{_+_, _*_, _-_, _≤_, _<_}
+use mathlib.Core.Path.{_≡_, refl, sym, _∙_, ap, subst}
+use native.Mathlib.Omega.{arith}
+use borrow.Author.Tests.{not-true, not-false, eq-eqb, ne-eqb}
+use lib.Dec.{eqb}
+use lib.ListN.{getD}
+use Rattle.model.specs.Words.{byte}
+use Rattle.model.specs.Tables.{windows, row}
+use Rattle.model.specs.Tables.{ports as portCount}
+use Rattle.model.specs.Events.{need}
+use Rattle.model.specs.Services.{useOwn, atPort, serve, refuse, likeRow}
+use Rattle.model.proofs.Accepted.{accepted}
+use Rattle.tables.specs.Shown as Shown
+use Rattle.events.specs.Shown.{callOf}
+use Rattle.ports.specs.Held.{rowOf, portAt}
+use Rattle.services.specs.Did.{Does, shown}
+use Rattle.services.specs.Served.{Serves}
+use Rattle.services.proofs.Cases.{refuse-as, serve-as}
+use Rattle.calls.proofs.Laws
+use borrow.Author.Needs.{needs}
+use Rattle.calls.proofs.creating.period.Statement.{statement}
+use Rattle.calls.proofs.creating.period.Tie as tie
+use Rattle.calls.proofs.creating.period.Reads as reads
+use Rattle.calls.proofs.creating.period.Lts as lts
+
+-- src/creating.rt:28:28
+enum-known-transfer : tie.Need-enum-known-transfer
+enum-known-transfer c = search needs
+
+-- src/creating.rt:29:27
+enum-known-transfer-2 : tie.Need-enum-known-transfer-2
+enum-known-transfer-2 c = search needs
+
+-- src/creating.rt:23:1
+returns : tie.Need-returns
+returns c = sym (Laws.period-sampling (c .before .before .before .args .row) (c .before .transfer .given .0 .0) (c .before .transfer .given .1))
+
+-- src/creating.rt:23:1
+returns-2 : tie.Need-returns-2
+returns-2 c = sym (Laws.period-queuing (c .before .before .before .args .row) (c .before .transfer2 .given .0 .0) (c .before .transfer2 .given .1))
+
+pub period-spec : {M : Type 1} → statement M
+period-spec = tie.close (tie.spec enum-known-transfer enum-known-transfer-2 returns returns-2)

@@ -1,0 +1,106 @@
+-- `calls::owning::use_own` meets its contract: the port-level service, raised to the state. Assumes nothing.
+use Prim.Native.Nat.{_+_, _*_, _-_, _≤_, _<_}
+use mathlib.Core.Path.{_≡_, refl, sym, _∙_, ap, subst}
+use native.Mathlib.Omega.{arith}
+use borrow.Author.Tests.{not-true, not-false, eq-eqb, ne-eqb}
+use lib.Dec.{eqb}
+use lib.ListN.{getD}
+use Rattle.model.specs.Words.{byte}
+use Rattle.model.specs.Tables.{windows, row}
+use Rattle.model.specs.Tables.{ports as portCount}
+use Rattle.model.specs.Events.{need}
+use Rattle.model.specs.Services.{useOwn, atPort, serve, refuse, likeRow}
+use Rattle.model.proofs.Accepted.{accepted}
+use Rattle.tables.specs.Shown as Shown
+use Rattle.events.specs.Shown.{callOf}
+use Rattle.ports.specs.Held.{rowOf, portAt}
+use Rattle.services.specs.Did.{Does, shown}
+use Rattle.services.specs.Served.{Serves}
+use Rattle.services.proofs.Cases.{refuse-as, serve-as}
+use Rattle.calls.proofs.Laws
+use borrow.Author.Needs.{needs}
+use Rattle.calls.proofs.owning.use_own.Statement.{statement}
+use Rattle.calls.proofs.owning.use_own.Tie as tie
+use Rattle.calls.proofs.owning.use_own.Reads as reads
+use Rattle.calls.proofs.owning.use_own.Lts as lts
+use Rattle.calls.proofs.owning.own.Reads as own-reads
+use Rattle.events.proofs.refusal.Reads as refusal-reads
+use Rattle.services.proofs.serve.Reads as serve-reads
+use Rattle.tables.proofs.port_row.Reads as port-row-reads
+
+-- src/owning.rt:58:9
+own-requires : tie.Need-own-requires
+own-requires c κs =
+    let s = c .before .before .before .before .before in
+    (Laws.rows-of (s .pre .0), (s .pre .0 .rows, s .pre .1 .coded))
+
+-- src/owning.rt:59:9
+refusal-requires : tie.Need-refusal-requires
+refusal-requires c κs = search needs
+
+-- src/owning.rt:59:9
+same-length : tie.Need-same-length
+same-length c = search needs
+
+-- src/owning.rt:59:9
+returns : tie.Need-returns
+returns c =
+    let s = c .before .before .before .before .before .before .before .before in
+    let t = s .args .t .now in
+    let n = s .args .numbers .now in
+    let b = s .args .bytes .now in
+    let p = s .args .p in
+    let e = s .args .event .now in
+    let f = callOf (s .args .f) in
+    let h = s .pre .0 in
+    λ modes clock. Laws.refused-does (shown t clock modes n b) p 3 (c .refusal .result)
+    (Laws.use-refused t (s .args .time) (shown t clock modes n b) p e f (Laws.own-shown t clock modes n b p f ∙ sym (c .before .before .own .ensures) ∙ not-true _ (c .before .if1 .taken))) (c .refusal .ensures)
+
+-- src/owning.rt:61:13
+cast-k : tie.Need-cast-k
+cast-k c = search needs
+
+-- src/owning.rt:61:13
+sub-k : tie.Need-sub-k
+sub-k c = search needs
+
+-- src/owning.rt:62:35
+add-port-row : tie.Need-add-port-row
+add-port-row c = search needs
+
+-- src/owning.rt:62:9
+port-row-requires : tie.Need-port-row-requires
+port-row-requires c κs = ?p
+
+-- src/owning.rt:63:5
+serve-requires : tie.Need-serve-requires
+serve-requires c κs = ?s
+
+-- src/owning.rt:44:1
+same-length-2 : tie.Need-same-length-2
+same-length-2 c = search needs
+
+-- src/owning.rt:44:1
+same-length-3 : tie.Need-same-length-3
+same-length-3 c = search needs
+
+-- src/owning.rt:44:1
+returns-2 : tie.Need-returns-2
+returns-2 c = ?r
+
+pub use-own-spec : {M : Type 1} → statement M
+use-own-spec =
+    tie.close
+    (tie.spec
+    own-requires
+    refusal-requires
+    same-length
+    returns
+    cast-k
+    sub-k
+    add-port-row
+    port-row-requires
+    serve-requires
+    same-length-2
+    same-length-3
+    returns-2)

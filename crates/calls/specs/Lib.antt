@@ -1,0 +1,2 @@
+-- A partition's call over the lent arrays.
+pub mod Called

@@ -1,0 +1,54 @@
+// A partition's call: in IDLE 15, else the service of its code.
+ghost use mathlib.Core.Path.{_≡_};
+ghost use Prim.Native.Nat.{_<_};
+ghost use lib.ListN.{length};
+ghost use Rattle.model.specs.State.{Clock};
+ghost use Rattle.model.specs.Services.{service};
+ghost use Rattle.events.specs.Shown.{callOf};
+ghost use Rattle.services.specs.Did.{Held, Does, shown};
+ghost use Rattle.calls.specs.Called.{Asked, Calls};
+use super::creating::create;
+use super::creating::get_id;
+use super::modes::set_mode;
+use super::owning::use_own;
+use events::Answer;
+use events::Fields;
+use services::Layout;
+
+pub fn service(
+    t: &[u8],
+    lay: Layout,
+    modes: &mut [u8],
+    numbers: &mut [u32],
+    bytes: &mut [u8],
+    p: u8,
+    time: u32,
+    event: &[u8],
+    f: Fields,
+) -> Answer
+    requires { ⌜ Held (now t) lay (now numbers) (now bytes) ⌝ }
+    requires { ⌜ Asked (now event) (callOf f) ⌝ }
+    requires { ⌜ p < length (now modes) ⌝ }
+    ensures { λ r. ⌜ Calls (now (t .entry)) (λ s. service (now (t .entry)) time s p (now (event .entry)) (callOf f)) p r (now (modes .entry)) (now (numbers .entry)) (now (bytes .entry)) (now (modes .exit)) (now (numbers .exit)) (now (bytes .exit)) ⌝ }
+{
+    if modes[p as usize] == 0 {
+        return events::refusal(15, p);
+    }
+    let code = f.code;
+    if code == 1 {
+        return create(t, lay, modes, numbers, bytes, p, event, f);
+    }
+    if code == 6 {
+        return create(t, lay, modes, numbers, bytes, p, event, f);
+    }
+    if code == 4 {
+        return get_id(t, lay, numbers, bytes, p, event, f);
+    }
+    if code == 9 {
+        return get_id(t, lay, numbers, bytes, p, event, f);
+    }
+    if code == 12 {
+        return set_mode(t, lay, modes, numbers, p, f.choice);
+    }
+    use_own(t, lay, numbers, bytes, p, time, event, f)
+}
