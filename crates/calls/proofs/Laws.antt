@@ -6,15 +6,16 @@ use mathlib.Core.Bool.{Bool, true, false, _&&_}
 use mathlib.Core.List.{List}
 use native.Mathlib.Omega.{arith}
 use lib.Dec.{eqb}
-use lib.ListN.{length, getD}
-use borrow.Author.Tests.{le-leb, lt-leb, eq-eqb, ne-eqb}
+use lib.ListN.{length, getD, set}
+use borrow.Author.Tests.{le-leb, lt-leb, eq-eqb, ne-eqb, lt-ltb, le-ltb}
 use Rattle.model.specs.Words.{byte, between}
 use Rattle.model.specs.Tables.{Tables, records, windows, Row, rowAt, row}
 use Rattle.model.specs.Tables.{ports as portCount}
-use Rattle.model.specs.State.{Clock, Port, State, port, withPort, isCreated}
+use Rattle.model.specs.State.{Clock, Port, State, modeOf, port, withPort, withQueue, fresh, isCreated}
 use Rattle.model.specs.Events.{Event, Call, need}
-use Rattle.model.specs.Services.{Reply, refuse, done, Served, refuses, serves, atPort, own, useOwn, serve, likeRow}
+use Rattle.model.specs.Services.{Reply, refuse, done, Served, refuses, serves, atPort, own, useOwn, serve, likeRow, made, lookUp, create, getId}
 use Rattle.model.specs.Step.{stateOf}
+use Rattle.model.specs.Answers.{toldId}
 use Rattle.model.proofs.Tests.{both-left, both-right, between-low, between-high}
 use Rattle.model.proofs.Accepted.{Accepted, accepted}
 use Rattle.model.proofs.Rows.{RowRanges}
@@ -26,8 +27,10 @@ use Rattle.tables.specs.declared.Transfer.the-variants.{Sampling, Queuing}
 use Rattle.tables.proofs.Decoded as Decoded
 use Rattle.events.specs.declared.answers.Answer.{Answer}
 use Rattle.events.specs.Shown.{refusedAs, toldAs, replied}
-use Rattle.ports.specs.Held.{rowOf, portAt, portsOf, PortPut}
-use Rattle.ports.proofs.Ports.{ports-at, ports-put}
+use Rattle.ports.specs.Held.{rowOf, blockOf, storeIn, portAt, portsOf, RowPut, PortPut}
+use Rattle.ports.proofs.Ports.{ports-at, ports-put, port-put, put-is, block-kept}
+use Rattle.ports.proofs.Rows.{row-again, row-is}
+use Rattle.stores.proofs.Laws.{queue-empty}
 use Rattle.services.specs.declared.Layout.{Layout}
 use Rattle.services.specs.Did.{Laid, Held, shown, Does}
 use Rattle.services.specs.Served.{Lent, Fits, Serves}
@@ -180,3 +183,55 @@ module _ (r : Row) (f : Call) where
   pub like-number : f .size ≡ r .largest → f .choice ≡ r .direction → likeRow r f ≡ eqb (f .number) (periodOf r)
   unfolding likeRow
   like-number a b = rw (eq-eqb (f .size) (r .largest) a, eq-eqb (f .choice) (r .direction) b)
+
+-- create, at the port that was found
+module _ (id mode : ℕ) (r : Row) (f : Call) (q : Port) where
+  pub made-again : q .created ≡ 1 → made id mode r f q ≡ refuses 1
+  unfolding made
+  made-again a = rw (eq-eqb (q .created) 1 a)
+
+  pub made-unlike : (q .created ≡ 1 → ⊥) → likeRow r f ≡ false → made id mode r f q ≡ refuses 4
+  unfolding made
+  made-unlike a b = rw (ne-eqb (q .created) 1 a, b)
+
+  pub made-normal : (q .created ≡ 1 → ⊥) → likeRow r f ≡ true → mode ≡ 3 → made id mode r f q ≡ refuses 5
+  unfolding made
+  made-normal a b m = rw (ne-eqb (q .created) 1 a, b, eq-eqb mode 3 m)
+
+  pub made-done : (q .created ≡ 1 → ⊥) → likeRow r f ≡ true → (mode ≡ 3 → ⊥)
+    → made id mode r f q ≡ serves (toldId id) (record { created = 1; arrival = q .arrival; validity = q .validity; queue = q .queue })
+  unfolding made
+  made-done a b m = rw (ne-eqb (q .created) 1 a, b, ne-eqb mode 3 m)
+
+-- create and get id, by what the look-up finds
+module _ (t : Tables) (s : State) (p : ℕ) (e : Event) (f : Call) (k : ℕ) (found : k ≡ lookUp t p (need (f .code) .mode) e) where
+  pub create-none : portCount t ≤ k → create t s p e f ≡ refuse 4
+  unfolding create
+  create-none h = rw (← found, le-ltb k (portCount t) h)
+
+  pub create-found : k < portCount t → create t s p e f ≡ atPort s k (made (suc k) (modeOf s p) (row t k) f (port s k))
+  unfolding create
+  create-found h = rw (← found, lt-ltb k (portCount t) h)
+
+  pub id-none : portCount t ≤ k → getId t s p e f ≡ refuse 4
+  unfolding getId
+  id-none h = rw (← found, le-ltb k (portCount t) h)
+
+  pub id-unmade : k < portCount t → (port s k .created ≡ 1 → ⊥) → getId t s p e f ≡ refuse 4
+  unfolding getId
+  id-unmade h n = rw (← found, lt-ltb k (portCount t) h, ne-eqb (port s k .created) 1 n)
+
+  pub id-made : k < portCount t → port s k .created ≡ 1 → getId t s p e f ≡ done (toldId (suc k)) s
+  unfolding getId
+  id-made h n = rw (← found, lt-ltb k (portCount t) h, eq-eqb (port s k .created) 1 n)
+
+-- a port's row with its marks, arrival and count zero is a port that is not created
+pub unmade-row : {n₀ n₁ n₂ n₃ n₄ : List ℕ} {k : ℕ} → RowPut n₀ n₁ k (set (rowOf n₀ k) 0 0) → RowPut n₁ n₂ k (set (rowOf n₁ k) 1 0) → RowPut n₂ n₃ k (set (rowOf n₂ k) 2 0)
+  → RowPut n₃ n₄ k (set (rowOf n₃ k) 4 0) → (bytes : List ℕ) → PortPut n₀ bytes n₄ bytes k fresh
+unfolding rowOf
+unmade-row {n₀} {n₁} {n₂} {n₃} {n₄} {k} a b c d bytes =
+    let ab = row-again a (row-is b (ap (λ r. set r 1 0) (a .here))) in
+    let abc = row-again ab (row-is c (ap (λ r. set r 2 0) (ab .here))) in
+    let abcd = row-again abc (row-is d (ap (λ r. set r 4 0) (abc .here))) in
+    put-is (port-put abcd (block-kept bytes k))
+    (ap (withQueue fresh) (queue-empty (storeIn (set (set (set (set (rowOf n₀ k) 0 0) 1 0) 2 0) 4 0) (blockOf bytes k)) refl))

@@ -1,2 +1,3 @@
 pub mod LookUp
 pub mod Laws
+pub mod Sweep

@@ -133,7 +133,7 @@ modes-set (x ∷ ms) (suc p) m h l =
     (modes-set ms p m (both-right (leb x normal) (allIn (λ m. leb m normal) ms) h) l)
 
 -- the ports of a mode change: each is fresh or as it was
-unmade-length : (t : Tables) (p k : ℕ) (qs : List Port) → length (unmade t p k qs) ≡ length qs
+pub unmade-length : (t : Tables) (p k : ℕ) (qs : List Port) → length (unmade t p k qs) ≡ length qs
 unmade-length t p k [] = refl
 unmade-length t p k (q ∷ qs) = ap suc (unmade-length t p (suc k) qs)
 

@@ -1,3 +1,24 @@
+-- `calls::creating::make` meets its contract: the tests in their order. Assumes nothing.
+use Prim.Native.Nat.{_+_, _*_, _-_, _≤_, _<_}
+use mathlib.Core.Path.{_≡_, refl, sym, _∙_, ap, subst}
+use native.Mathlib.Omega.{arith}
+use borrow.Author.Tests.{not-true, not-false, eq-eqb, ne-eqb}
+use lib.Dec.{eqb}
+use lib.ListN.{getD}
+use Rattle.model.specs.Words.{byte}
+use Rattle.model.specs.Tables.{windows, row}
+use Rattle.model.specs.Tables.{ports as portCount}
+use Rattle.model.specs.Events.{need}
+use Rattle.model.specs.Services.{useOwn, atPort, serve, refuse, likeRow}
+use Rattle.model.proofs.Accepted.{accepted}
+use Rattle.tables.specs.Shown as Shown
+use Rattle.events.specs.Shown.{callOf}
+use Rattle.ports.specs.Held.{rowOf, portAt}
+use Rattle.services.specs.Did.{Does, shown}
+use Rattle.services.specs.Served.{Serves}
+use Rattle.services.proofs.Cases.{refuse-as, serve-as}
+use Rattle.calls.proofs.Laws
+use Rattle.ports.proofs.Marks.{put-created}
 use borrow.Author.Needs.{needs}
 use Rattle.calls.proofs.creating.make.Statement.{statement}
 use Rattle.calls.proofs.creating.make.Tie as tie
@@ -23,7 +44,17 @@ same-length c = search needs
 
 -- src/creating.rt:60:9
 returns : tie.Need-returns
-returns c = ?
+returns c = 
+    let s = c .before .before .before .before .before .before in
+    let n = s .args .numbers .now in
+    let b = s .args .bytes .now in
+    let k = s .args .k in
+    let r = Shown.rowOf (s .args .row) in
+    let f = callOf (s .args .f) in
+    let q = portAt n b k in
+    let d = s .args .doer in
+    let mark = Laws.created-is n b k in
+    refuse-as n b k d 1 (c .refusal .result) (Laws.made-again (k + 1) (s .args .mode) r f q (mark ∙ sym (c .before .before .number .ensures) ∙ c .before .if1 .taken)) (c .refusal .ensures)
 
 -- src/creating.rt:62:9
 like-row-requires : tie.Need-like-row-requires
@@ -39,7 +70,17 @@ same-length-2 c = search needs
 
 -- src/creating.rt:63:9
 returns-2 : tie.Need-returns-2
-returns-2 c = ?
+returns-2 c = 
+    let s = c .before .before .before .before .before .before .before .before in
+    let n = s .args .numbers .now in
+    let b = s .args .bytes .now in
+    let k = s .args .k in
+    let r = Shown.rowOf (s .args .row) in
+    let f = callOf (s .args .f) in
+    let q = portAt n b k in
+    let d = s .args .doer in
+    let mark = Laws.created-is n b k in
+    refuse-as n b k d 4 (c .refusal2 .result) (Laws.made-unlike (k + 1) (s .args .mode) r f q (λ z. c .before .before .before .if1 .left (c .before .before .before .before .number .ensures ∙ sym mark ∙ z)) (sym (c .before .before .like-row .ensures) ∙ not-true _ (c .before .if2 .taken))) (c .refusal2 .ensures)
 
 -- src/creating.rt:66:9
 refusal-requires-3 : tie.Need-refusal-requires-3
@@ -51,7 +92,17 @@ same-length-3 c = search needs
 
 -- src/creating.rt:66:9
 returns-3 : tie.Need-returns-3
-returns-3 c = ?
+returns-3 c = 
+    let s = c .before .before .before .before .before .before .before .before .before in
+    let n = s .args .numbers .now in
+    let b = s .args .bytes .now in
+    let k = s .args .k in
+    let r = Shown.rowOf (s .args .row) in
+    let f = callOf (s .args .f) in
+    let q = portAt n b k in
+    let d = s .args .doer in
+    let mark = Laws.created-is n b k in
+    refuse-as n b k d 5 (c .refusal3 .result) (Laws.made-normal (k + 1) (s .args .mode) r f q (λ z. c .before .before .before .before .if1 .left (c .before .before .before .before .before .number .ensures ∙ sym mark ∙ z)) (sym (c .before .before .before .like-row .ensures) ∙ not-false _ (c .before .before .if2 .left)) (c .before .if3 .taken)) (c .refusal3 .ensures)
 
 -- src/creating.rt:68:5
 set-number-requires : tie.Need-set-number-requires
@@ -75,7 +126,17 @@ same-length-4 c = search needs
 
 -- src/creating.rt:47:1
 returns-4 : tie.Need-returns-4
-returns-4 c = ?
+returns-4 c = 
+    let s = c .before .before .before .before .before .before .before .before .before .before .before .before .before in
+    let n = s .args .numbers .now in
+    let b = s .args .bytes .now in
+    let k = s .args .k in
+    let r = Shown.rowOf (s .args .row) in
+    let f = callOf (s .args .f) in
+    let q = portAt n b k in
+    let d = s .args .doer in
+    let mark = Laws.created-is n b k in
+    serve-as d (Laws.made-done (k + 1) (s .args .mode) r f q (λ z. c .before .before .before .before .before .before .before .before .if1 .left (c .before .before .before .before .before .before .before .before .before .number .ensures ∙ sym mark ∙ z)) (sym (c .before .before .before .before .before .before .before .like-row .ensures) ∙ not-false _ (c .before .before .before .before .before .before .if2 .left)) (c .before .before .before .before .before .if3 .left)) (c .told-id .ensures) (put-created n b k 1 (c .before .before .before .set-number .ensures))
 
 pub make-spec : {M : Type 1} → statement M
 make-spec =

@@ -1,3 +1,5 @@
+-- `calls::modes::unmake` meets its contract: four numbers set. Assumes nothing.
+use Rattle.calls.proofs.Laws
 use borrow.Author.Needs.{needs}
 use Rattle.calls.proofs.modes.unmake.Statement.{statement}
 use Rattle.calls.proofs.modes.unmake.Tie as tie
@@ -27,7 +29,7 @@ same-length c = search needs
 
 -- src/modes.rt:16:1
 returns : tie.Need-returns
-returns c = ?
+returns c = λ bytes. Laws.unmade-row (c .before .before .before .before .before .before .before .before .before .before .before .before .before .before .set-number .ensures) (c .before .before .before .before .before .before .before .before .before .before .set-number2 .ensures) (c .before .before .before .before .before .before .set-number3 .ensures) (c .before .before .set-number4 .ensures) bytes
 
 pub unmake-spec : {M : Type 1} → statement M
 unmake-spec =

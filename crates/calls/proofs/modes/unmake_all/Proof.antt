@@ -1,3 +1,12 @@
+-- `calls::modes::unmake_all` meets its contract: after k turns the first k rows are swept. Assumes nothing.
+use Prim.Native.Nat.{_+_, _*_, _-_, _≤_, _<_}
+use mathlib.Core.Path.{_≡_, refl, sym, _∙_, ap, subst}
+use mathlib.Core.Logic.{⊎-elim}
+use native.Mathlib.Omega.{arith}
+use lib.ListN.{length}
+use borrow.Author.Needs.{needs}
+use Rattle.model.specs.Tables.{ports, row, rowAt}
+use Rattle.calls.proofs.Sweep.{Swept, swept-none, swept-taken, swept-kept, swept-all}
 use Rattle.calls.proofs.modes.unmake_all.Statement.{statement}
 use Rattle.calls.proofs.modes.unmake_all.Tie as tie
 use Rattle.calls.proofs.modes.unmake_all.Reads as reads
@@ -5,54 +14,54 @@ use Rattle.calls.proofs.modes.unmake_all.Lts as lts
 use Rattle.calls.proofs.modes.unmake.Reads as unmake-reads
 
 abbrev Inv-loop : tie.InvT-loop
-Inv-loop t lay numbers₀ p k₀ numbers k = ?
+Inv-loop t lay numbers₀ p k₀ numbers k = (k ≤ ports t) × (length numbers ≡ length numbers₀) × Swept t p k numbers₀ numbers
 
 abbrev μ-loop : tie.MeasureT-loop
-μ-loop t lay numbers₀ p k₀ numbers k = ?
+μ-loop t lay numbers₀ p k₀ numbers k = lay .ports - k
 
 -- src/modes.rt:33:5
 loop-holds : tie.Need-loop-holds Inv-loop μ-loop
-loop-holds c = ?
+loop-holds c = (omega arith, refl, swept-none _ _ _)
 
 -- src/modes.rt:34:20
 add-if2 : tie.Need-add-if2 Inv-loop μ-loop
-add-if2 c = ?
+add-if2 c = search needs
 
 -- src/modes.rt:34:14
 mul-if2 : tie.Need-mul-if2 Inv-loop μ-loop
-mul-if2 c = ?
+mul-if2 c = search needs
 
 -- src/modes.rt:34:14
 add-if2-2 : tie.Need-add-if2-2 Inv-loop μ-loop
-add-if2-2 c = ?
+add-if2-2 c = search needs
 
 -- src/modes.rt:34:12
 shared-slice-read-if2 : tie.Need-shared-slice-read-if2 Inv-loop μ-loop
-shared-slice-read-if2 c = ?
+shared-slice-read-if2 c = search needs
 
 -- src/modes.rt:35:13
 unmake-requires : tie.Need-unmake-requires Inv-loop μ-loop
-unmake-requires c κs = ?
+unmake-requires c κs = ?u
 
 -- src/modes.rt:37:13
 add-k : tie.Need-add-k Inv-loop μ-loop
-add-k c = ?
+add-k c = search needs
 
 -- src/modes.rt:33:5
 loop-less : tie.Need-loop-less Inv-loop μ-loop
-loop-less c = ?
+loop-less c = search needs
 
 -- src/modes.rt:33:5
 loop-again : tie.Need-loop-again Inv-loop μ-loop
-loop-again c = ?
+loop-again c = ?a
 
 -- src/modes.rt:27:1
 same-length : tie.Need-same-length Inv-loop μ-loop
-same-length c = ?
+same-length c = search needs
 
 -- src/modes.rt:27:1
 returns : tie.Need-returns Inv-loop μ-loop
-returns c = ?
+returns c = ?r
 
 pub unmake-all-spec : {M : Type 1} → statement M
 unmake-all-spec =

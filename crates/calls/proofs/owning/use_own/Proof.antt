@@ -1,13 +1,14 @@
 -- `calls::owning::use_own` meets its contract: the port-level service, raised to the state. Assumes nothing.
 use Prim.Native.Nat.{_+_, _*_, _-_, _≤_, _<_}
-use mathlib.Core.Path.{_≡_, refl, sym, _∙_, ap, subst}
+use mathlib.Core.Path.{_≡_, refl, sym, _∙_, ap, ap₂, subst}
 use native.Mathlib.Omega.{arith}
 use borrow.Author.Tests.{not-true, not-false, eq-eqb, ne-eqb}
 use lib.Dec.{eqb}
 use lib.ListN.{getD}
 use Rattle.model.specs.Words.{byte}
-use Rattle.model.specs.Tables.{windows, row}
+use Rattle.model.specs.Tables.{windows, rowAt, row}
 use Rattle.model.specs.Tables.{ports as portCount}
+use Rattle.model.specs.State.{port}
 use Rattle.model.specs.Events.{need}
 use Rattle.model.specs.Services.{useOwn, atPort, serve, refuse, likeRow}
 use Rattle.model.proofs.Accepted.{accepted}
@@ -62,19 +63,49 @@ cast-k c = search needs
 
 -- src/owning.rt:61:13
 sub-k : tie.Need-sub-k
-sub-k c = search needs
+sub-k c = 
+    let s = c .before .before .before .before .before .before .before .before in
+    let n = s .args .numbers .now in
+    Laws.own-some (s .args .t .now) n (s .args .p) (callOf (s .args .f)) (sym (c .before .before .own .ensures) ∙ not-false _ (c .before .if1 .left))
 
 -- src/owning.rt:62:35
 add-port-row : tie.Need-add-port-row
-add-port-row c = search needs
+add-port-row c = 
+    let s = c .before .before .before .before .before .before .before .before .before in
+    let t = s .args .t .now in
+    let a = accepted t (s .pre .0 .accepted) in
+    let there = Laws.own-there t (s .args .numbers .now) (s .args .p) (callOf (s .args .f)) (sym (c .before .before .before .own .ensures) ∙ not-false _ (c .before .before .if1 .left)) in
+    record { fits = omega (arith, there, s .pre .0 .laid .windowed, a .fewWindows, a .fewPorts) }
 
 -- src/owning.rt:62:9
 port-row-requires : tie.Need-port-row-requires
-port-row-requires c κs = ?p
+port-row-requires c κs = 
+    let s = c .before .before .before .before .before .before .before .before .before in
+    let t = s .args .t .now in
+    let n = s .args .numbers .now in
+    let b = s .args .bytes .now in
+    let p = s .args .p in
+    let e = s .args .event .now in
+    let f = callOf (s .args .f) in
+    let h = s .pre .0 in
+    let a = accepted t (h .accepted) in
+    let there = Laws.own-there t n p f (sym (c .before .before .before .own .ensures) ∙ not-false _ (c .before .before .if1 .left)) in
+    let some = Laws.own-some t n p f (sym (c .before .before .before .own .ensures) ∙ not-false _ (c .before .before .if1 .left)) in
+    omega (arith, there, some, h .laid .windowed, a .portsAfter, a .channelsAfter)
 
 -- src/owning.rt:63:5
 serve-requires : tie.Need-serve-requires
-serve-requires c κs = ?s
+serve-requires c κs = 
+    let s = c .before .before .before .before .before .before .before .before .before .before .before .before in
+    let t = s .args .t .now in
+    let n = s .args .numbers .now in
+    let b = s .args .bytes .now in
+    let p = s .args .p in
+    let e = s .args .event .now in
+    let f = callOf (s .args .f) in
+    let h = s .pre .0 in
+    let there = Laws.own-there t n p f (sym (c .before .before .before .before .before .before .own .ensures) ∙ not-false _ (c .before .before .before .before .before .if1 .left)) in
+    (Laws.fits-of h (f .id - 1) there (c .before .before .port-row .result) (c .before .before .port-row .ensures ∙ ap (λ w. Shown.decoded (rowAt t (w + (f .id - 1)))) (h .laid .windowed)), (s .pre .1 .whole, s .pre .1 .coded))
 
 -- src/owning.rt:44:1
 same-length-2 : tie.Need-same-length-2
@@ -86,7 +117,30 @@ same-length-3 c = search needs
 
 -- src/owning.rt:44:1
 returns-2 : tie.Need-returns-2
-returns-2 c = ?r
+returns-2 c = 
+    let s = c .before .before .before .before .before .before .before .before .before .before .before .before .before .before .before .before .before in
+    let t = s .args .t .now in
+    let n = s .args .numbers .now in
+    let b = s .args .bytes .now in
+    let p = s .args .p in
+    let e = s .args .event .now in
+    let f = callOf (s .args .f) in
+    let h = s .pre .0 in
+    let k = f .id - 1 in
+    let owns = sym (c .before .before .before .before .before .before .before .before .before .before .before .own .ensures) ∙ not-false _ (c .before .before .before .before .before .before .before .before .before .before .if1 .left) in
+    let there = Laws.own-there t n p f owns in
+    let r = Shown.rowOf (c .before .before .before .before .before .before .before .port-row .result) in
+    let shows = ap Shown.rowOf (c .before .before .before .before .before .before .before .port-row .ensures ∙ ap (λ w. Shown.decoded (rowAt t (w + k))) (h .laid .windowed)) ∙ Laws.row-shown t (accepted t (h .accepted)) k there in
+    λ modes clock.
+      let st = shown t clock modes n b in
+      let served = serve (s .args .time) (row t k) e f (port st k) in
+      let same : serve (s .args .time) r e f (portAt n b k) ≡ served =
+        ap₂ (λ x q. serve (s .args .time) x e f q) shows (sym (Laws.shown-port t clock modes n b k there))
+      in
+      subst (λ x. Does st x p (c .before .before .before .before .serve .result) (shown t clock modes (c .before .before .before .before .serve .last .0) (c .before .before .before .before .serve .last .1 .0)))
+      (sym (Laws.use-served t (s .args .time) st p e f (Laws.own-shown t clock modes n b p f ∙ owns)))
+      (Laws.serves-does t clock modes n b (c .before .before .before .before .serve .last .0) (c .before .before .before .before .serve .last .1 .0) k p (c .before .before .before .before .serve .result) served there
+      (subst (Serves n b (c .before .before .before .before .serve .last .0) (c .before .before .before .before .serve .last .1 .0) k p (c .before .before .before .before .serve .result)) same (c .before .before .before .before .serve .ensures)))
 
 pub use-own-spec : {M : Type 1} → statement M
 use-own-spec =
