@@ -9,13 +9,13 @@ use native.Mathlib.Omega.{arith}
 use lib.Dec.{leb, ltb, eqb}
 use borrow.Author.Tests.{eq-eqb, ne-eqb, le-leb, leb-true, ltb-true, ltb-false, eqb-true, eqb-false, not-false}
 use Rattle.model.specs.Words.{if_then_else_, between}
-use Rattle.model.specs.Tables.{Tables, records, kind, windows, portsEnd, ports, queuing, source, destination, Row, rowAt, row, destinationsAt, endAt}
+use Rattle.model.specs.Tables.{Tables, records, kind, windows, portsEnd, ports, queuing, source, destination, Row, rowAt, destinationsAt, endAt}
 use Rattle.model.specs.Load.{byKind, windowFits, rowFits, portFits, channelFits, idRow, endFits, countFits}
 use Rattle.model.specs.Load.{kindFault, countFault, fieldFault, nameFault, endFault, fault}
 use Rattle.tables.specs.Shown.{modeOf, transferOf, decoded}
 use Rattle.tables.specs.Known.{Placed, FaultlessBefore, ModesFit, SourceRow}
 use Rattle.tables.specs.declared.PortRow.{PortRow}
-use Rattle.tables.proofs.Places.{windows-within, ports-after, ports-within, window-kind, port-kind}
+use Rattle.tables.proofs.Places.{ports-after, ports-within, window-kind, port-kind}
 
 -- of a conjunction that holds both parts hold
 left : (a b : Bool) → a && b ≡ true → a ≡ true

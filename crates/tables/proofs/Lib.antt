@@ -3,3 +3,4 @@ pub mod ChannelEnds
 pub mod Decoded
 pub mod Faults
 pub mod Places
+pub mod Searched

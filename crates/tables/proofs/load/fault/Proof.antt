@@ -3,7 +3,6 @@
 use borrow.Author.Needs.{needs}
 use Rattle.tables.proofs.load.fault.Statement.{statement}
 use Rattle.tables.proofs.load.fault.Tie as tie
-use mathlib.Core.Path.{sym, _∙_}
 use Rattle.model.specs.Load.{fault}
 
 kind-fault-requires : tie.Need-kind-fault-requires
