@@ -7,6 +7,10 @@ ghost use Rattle.model.specs.Tables.{records, kind, windows, portsEnd};
 ghost use Rattle.model.specs.Load.{lengthFault, kindFault, countFault, fault, firstFault, loadOf};
 ghost use Rattle.tables.specs.Shown.{verdictOf};
 ghost use Rattle.tables.specs.Known.{Placed, FaultlessBefore};
+use super::MOST_CHANNELS;
+use super::MOST_PORTS;
+use super::MOST_WINDOWS;
+use super::RECORD_SIZE;
 use super::Verdict;
 use super::bytes::wide;
 use super::ends::end_fault;
@@ -22,7 +26,7 @@ use super::names::name_fault;
 fn length_fault(t: &[u8]) -> bool
     ensures { λ faulty. ⌜ faulty ≡ lengthFault (now (t .entry)) ⌝ }
 {
-    t.len() == 0 || t.len() % 48 != 0
+    t.len() == 0 || t.len() % RECORD_SIZE != 0
 }
 
 // The kind of record r is below that of the record before it.
@@ -58,12 +62,12 @@ fn count_fault(t: &[u8], first_port: usize, first_channel: usize, r: usize) -> b
 {
     let k = kind(t, r);
     if k == 1 {
-        return 64 <= r;
+        return MOST_WINDOWS <= r;
     }
     if k == 2 {
-        return 64 <= beyond(r, first_port);
+        return MOST_PORTS <= beyond(r, first_port);
     }
-    32 <= beyond(r, first_channel)
+    MOST_CHANNELS <= beyond(r, first_channel)
 }
 
 // The number of the fault of record r, 0 where there is none. Within a record the lower number is reported.
