@@ -4,3 +4,4 @@ pub mod Decoded
 pub mod Faults
 pub mod Places
 pub mod Searched
+pub mod Unique

@@ -15,6 +15,7 @@ pub use channels::source_port;
 pub use layout::channel_count;
 pub use layout::port_count;
 pub use layout::ports_end;
+pub use layout::ports_end_from;
 pub use layout::records;
 pub use layout::window_length;
 pub use layout::window_partition;
