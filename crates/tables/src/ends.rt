@@ -1,5 +1,5 @@
 // Refusal 25: the ends of a channel. Its ends are ids in a row: end 0 is the source, ends 1 to its count the destinations. A count that
-// 23 refuses is at most 255, so an end may stand past the table, where `end_at` answers 0.
+// 23 refuses may be up to 255, so that an end stands past the table.
 ghost use Prim.Native.Nat.{_+_, _≤_, _<_};
 ghost use mathlib.Core.Path.{_≡_};
 ghost use mathlib.Core.Bool.{true, _&&_, _||_, not};
@@ -20,6 +20,7 @@ use super::layout::kind;
 use super::rows::mode;
 use super::rows::port_row;
 
+// The id at end j of the channel in record r, 0 past the end of the table.
 fn end_at(t: &[u8], r: usize, j: usize) -> usize
     requires { ⌜ (r < records (now t)) × (j < 256) ⌝ }
     ensures { λ id. ⌜ id ≡ endAt (now (t .entry)) r j ⌝ }
