@@ -8,14 +8,15 @@ use native.Mathlib.Nat.{le-refl}
 use native.Mathlib.Omega.{arith}
 use lib.Dec.{leb, ltb, eqb}
 use borrow.Author.Tests.{eq-eqb, ne-eqb, le-leb, leb-true, ltb-true, ltb-false, eqb-true, eqb-false, not-false}
-use Rattle.model.specs.Words.{if_then_else_, between}
-use Rattle.model.specs.Tables.{Tables, records, kind, windows, portsEnd, ports, queuing, source, destination, Row, rowAt, row, destinationsAt, endAt}
+use Rattle.model.specs.Words.{between}
+use Rattle.model.specs.Tables.{Tables, records, kind, windows, portsEnd, ports, queuing, source, destination, Row, rowAt, destinationsAt, endAt}
 use Rattle.model.specs.Load.{byKind, windowFits, rowFits, portFits, channelFits, idRow, endFits, countFits}
 use Rattle.model.specs.Load.{kindFault, countFault, fieldFault, nameFault, endFault, fault}
 use Rattle.tables.specs.Shown.{modeOf, transferOf, decoded}
+use Rattle.tables.specs.Pieces.{lowest}
 use Rattle.tables.specs.Known.{Placed, FaultlessBefore, ModesFit, SourceRow}
 use Rattle.tables.specs.declared.PortRow.{PortRow}
-use Rattle.tables.proofs.Places.{windows-within, ports-after, ports-within, window-kind, port-kind}
+use Rattle.tables.proofs.Places.{ports-after, ports-within, window-kind, port-kind}
 
 -- of a conjunction that holds both parts hold
 left : (a b : Bool) → a && b ≡ true → a ≡ true
@@ -95,9 +96,7 @@ unfolding countFits
 count-of t r from known fit = rw (known .shown, mode-of t (endAt t r 0) fit (known .rowed))
 
 -- where the records before r have no fault, and r is past the ports, each port's mode is one of the two
-fields-fit :
-    (a b c d e : Bool) → _≡_ {A = ℕ} (if a then 21 else if b then 22 else if c then 23 else if d then 24 else if e then 25 else 0) 0
-    → c ≡ false
+fields-fit : (a b c d e : Bool) → lowest a b c d e ≡ 0 → c ≡ false
 fields-fit true b c d e h = absurd (omega arith)
 fields-fit false true c d e h = absurd (omega arith)
 fields-fit false false true d e h = absurd (omega arith)

@@ -1,9 +1,9 @@
--- Pieces of the model's tests, each a search that a function of its own carries out.
+-- Pieces of the model's tests, each of which a function of its own carries out.
 -- Assumes nothing.
 use Prim.Native.Nat.{ℕ, suc, _+_, _-_}
 use mathlib.Core.Bool.{Bool, _||_, not}
 use lib.Dec.{eqb}
-use Rattle.model.specs.Words.{any, all, byte}
+use Rattle.model.specs.Words.{if_then_else_, any, all, byte}
 use Rattle.model.specs.Tables.{Tables, windows, portsEnd, destinationsAt, endAt}
 use Rattle.model.specs.Load.{sameOwnerAndName, ends, endFits, namedAmong, namedBefore}
 
@@ -30,3 +30,8 @@ namedInEarlier t id r = any (λ q. namedAmong t id (ends t q) q) (r - portsEnd t
 -- a port that the channel in record r names is named twice
 abbrev pub namedAgain : Tables → ℕ → Bool
 namedAgain t r = any (namedBefore t r) (ends t r) 0
+
+-- the lowest number of a record's faults, from the five tests of 21 to 25
+abbrev pub lowest : Bool → Bool → Bool → Bool → Bool → ℕ
+lowest kind count field name end =
+    if kind then 21 else if count then 22 else if field then 23 else if name then 24 else if end then 25 else 0

@@ -1,5 +1,5 @@
 // Refusal 25: the ends of a channel. Its ends are ids in a row: end 0 is the source, ends 1 to its count the destinations. A count that
-// 23 refuses is at most 255, so an end may stand past the table, where `end_at` answers 0.
+// 23 refuses may be up to 255, so that an end stands past the table.
 ghost use Prim.Native.Nat.{_+_, _≤_, _<_};
 ghost use mathlib.Core.Path.{_≡_};
 ghost use mathlib.Core.Bool.{true, _&&_, _||_, not};
@@ -10,18 +10,22 @@ ghost use Rattle.model.specs.Load.{idRow, ends, endFits, namedAmong, namedBefor
 ghost use Rattle.tables.specs.Shown.{modeOf, decoded};
 ghost use Rattle.tables.specs.Pieces.{destinationsFit, namedInEarlier, namedAgain};
 ghost use Rattle.tables.specs.Known.{Placed, SourceRow, ModesFit, FaultlessBefore};
+use super::DESTINATION;
 use super::PortRow;
+use super::RECORD_SIZE;
+use super::SOURCE;
 use super::Transfer;
 use super::bytes::word16_at;
 use super::layout::kind;
 use super::rows::mode;
 use super::rows::port_row;
 
+// The id at end j of the channel in record r, 0 past the end of the table.
 fn end_at(t: &[u8], r: usize, j: usize) -> usize
     requires { ⌜ (r < records (now t)) × (j < 256) ⌝ }
     ensures { λ id. ⌜ id ≡ endAt (now (t .entry)) r j ⌝ }
 {
-    word16_at(t, 48 * r + 2 + 2 * j) as usize
+    word16_at(t, RECORD_SIZE * r + 2 + 2 * j) as usize
 }
 
 // How many ends a channel has: its source and its destinations.
@@ -29,7 +33,7 @@ fn end_count(t: &[u8], r: usize) -> usize
     requires { ⌜ r < records (now t) ⌝ }
     ensures { λ n. ⌜ n ≡ ends (now (t .entry)) r ⌝ }
 {
-    t[48 * r + 1] as usize + 1
+    t[RECORD_SIZE * r + 1] as usize + 1
 }
 
 // An id has a row.
@@ -58,7 +62,7 @@ fn source_fits(t: &[u8], first_port: usize, first_channel: usize, r: usize) -> b
         return false;
     }
     let row = id_row(t, first_port, id);
-    row.direction == 0
+    row.direction == SOURCE
 }
 
 // A row is that of a destination, of its source's mode, for messages as large as the source's.
@@ -70,7 +74,7 @@ fn takes_from(row: PortRow, source: PortRow) -> bool
         && leb (source .largest) (row .largest))
         ⌝ }
 {
-    if row.direction != 1 {
+    if row.direction != DESTINATION {
         return false;
     }
     let received = row.transfer;
@@ -207,7 +211,7 @@ fn channel_ends_fit(t: &[u8], first_port: usize, first_channel: usize, r: usize)
     if !destinations_fit(t, first_port, first_channel, r, source) {
         return false;
     }
-    if !count_fits(source, t[48 * r + 1]) {
+    if !count_fits(source, t[RECORD_SIZE * r + 1]) {
         return false;
     }
     !named_again(t, first_channel, r)

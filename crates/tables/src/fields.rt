@@ -7,6 +7,11 @@ ghost use Rattle.model.specs.Words.{if_then_else_, between};
 ghost use Rattle.model.specs.Tables.{records, mover, sampling, queuing, destination, rowAt};
 ghost use Rattle.model.specs.Load.{windowFits, rowFits, portFits, channelFits, fieldFault};
 ghost use Rattle.tables.specs.Pieces.{unusedBlank};
+use super::DESTINATION;
+use super::MOVER;
+use super::QUEUING;
+use super::RECORD_SIZE;
+use super::SAMPLING;
 use super::bytes::blank;
 use super::bytes::wide;
 use super::bytes::word32;
@@ -25,7 +30,7 @@ pub fn between(low: u32, high: u32, x: u32) -> bool
 fn partition_fits(partition: u8) -> bool
     ensures { λ r. ⌜ r ≡ (leb partition 15 || eqb partition mover) ⌝ }
 {
-    partition <= 15 || partition == 32
+    partition <= 15 || partition == MOVER
 }
 
 fn window_fits(t: &[u8], r: usize) -> bool
@@ -38,14 +43,14 @@ fn window_fits(t: &[u8], r: usize) -> bool
     if !between(1, 10_000, window_length(t, r)) {
         return false;
     }
-    blank(t, 44, 48 * r + 4)
+    blank(t, 44, RECORD_SIZE * r + 4)
 }
 
 // 1..8 for queuing, 0 for sampling.
 fn depth_fits(mode: u8, depth: u32) -> bool
     ensures { λ r. ⌜ r ≡ (if eqb mode queuing then between 1 8 depth else eqb depth 0) ⌝ }
 {
-    if mode == 1 {
+    if mode == QUEUING {
         between(1, 8, depth)
     } else {
         depth == 0
@@ -55,7 +60,7 @@ fn depth_fits(mode: u8, depth: u32) -> bool
 fn is_sampling_destination(mode: u8, direction: u8) -> bool
     ensures { λ r. ⌜ r ≡ (eqb mode sampling && eqb direction destination) ⌝ }
 {
-    mode == 0 && direction == 1
+    mode == SAMPLING && direction == DESTINATION
 }
 
 // 1..1,000,000 for a sampling destination, else 0.
@@ -77,7 +82,7 @@ fn row_fits(t: &[u8], r: usize) -> bool
     requires { ⌜ r < records (now t) ⌝ }
     ensures { λ fits. ⌜ fits ≡ rowFits (rowAt (now (t .entry)) r) ⌝ }
 {
-    let at = 48 * r;
+    let at = RECORD_SIZE * r;
     let mode = t[at + 2];
     let direction = t[at + 3];
     if 15 < t[at + 1] {
@@ -102,10 +107,10 @@ fn port_fits(t: &[u8], r: usize) -> bool
     requires { ⌜ r < records (now t) ⌝ }
     ensures { λ fits. ⌜ fits ≡ portFits (now (t .entry)) r ⌝ }
 {
-    row_fits(t, r) && blank(t, 2, 48 * r + 46)
+    row_fits(t, r) && blank(t, 2, RECORD_SIZE * r + 46)
 }
 
-// The ids past a channel's count are zero.
+// The ids past a channel's count, of the eight at ends 1 to 8, are zero.
 fn unused_blank(t: &[u8], r: usize, count: u8) -> bool
     requires { ⌜ r < records (now t) ⌝ }
     ensures { λ fits. ⌜ fits ≡ unusedBlank (now (t .entry)) r count ⌝ }
@@ -124,14 +129,14 @@ fn channel_fits(t: &[u8], r: usize) -> bool
     requires { ⌜ r < records (now t) ⌝ }
     ensures { λ fits. ⌜ fits ≡ channelFits (now (t .entry)) r ⌝ }
 {
-    let count = t[48 * r + 1];
+    let count = t[RECORD_SIZE * r + 1];
     if !between(1, 8, wide(count)) {
         return false;
     }
     if !unused_blank(t, r, count) {
         return false;
     }
-    blank(t, 28, 48 * r + 20)
+    blank(t, 28, RECORD_SIZE * r + 20)
 }
 
 pub fn field_fault(t: &[u8], r: usize) -> bool

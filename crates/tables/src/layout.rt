@@ -3,12 +3,13 @@
 ghost use Prim.Native.Nat.{_<_};
 ghost use mathlib.Core.Path.{_≡_};
 ghost use Rattle.model.specs.Tables.{records, kind, windows, portsEnd, ports, channels, windowPartition, windowLength};
+use super::RECORD_SIZE;
 use super::bytes::word16;
 
 pub fn records(t: &[u8]) -> usize
     ensures { λ n. ⌜ n ≡ records (now (t .entry)) ⌝ }
 {
-    t.len() / 48
+    t.len() / RECORD_SIZE
 }
 
 // Byte 0 of a record: 1 window, 2 port, 3 channel.
@@ -16,7 +17,7 @@ pub fn kind(t: &[u8], r: usize) -> u8
     requires { ⌜ r < records (now t) ⌝ }
     ensures { λ k. ⌜ k ≡ kind (now (t .entry)) r ⌝ }
 {
-    t[48 * r]
+    t[RECORD_SIZE * r]
 }
 
 // How many windows there are: the number of the first record that is none.
@@ -74,7 +75,7 @@ pub fn window_partition(t: &[u8], w: usize) -> u8
     requires { ⌜ w < records (now t) ⌝ }
     ensures { λ p. ⌜ p ≡ windowPartition (now (t .entry)) w ⌝ }
 {
-    t[48 * w + 1]
+    t[RECORD_SIZE * w + 1]
 }
 
 // The length of window w in ticks.
@@ -82,5 +83,5 @@ pub fn window_length(t: &[u8], w: usize) -> u32
     requires { ⌜ w < records (now t) ⌝ }
     ensures { λ n. ⌜ n ≡ windowLength (now (t .entry)) w ⌝ }
 {
-    word16(t, 48 * w + 2)
+    word16(t, RECORD_SIZE * w + 2)
 }

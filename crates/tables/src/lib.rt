@@ -1,5 +1,5 @@
 // The loader of 01, "Tables" and "Load refusals": the verdict on the caller's bytes, and the rows, counts and ends of the tables,
-// each read where it stands. Nothing is collected. Every function's contract is an equation with the model's definition of the same name.
+// each read where it stands. Nothing is collected. A function's contract is an equation with the model, whose names it takes.
 mod bytes;
 mod channels;
 mod ends;
@@ -17,6 +17,7 @@ pub use channels::source_port;
 pub use layout::channel_count;
 pub use layout::port_count;
 pub use layout::ports_end;
+pub use layout::ports_end_from;
 pub use layout::records;
 pub use layout::window_length;
 pub use layout::window_partition;
@@ -27,6 +28,30 @@ pub use rows::depth;
 pub use rows::mode;
 pub use rows::port_row;
 pub use rows::refresh;
+
+// A record's size in bytes, and a name's.
+pub const RECORD_SIZE: usize = 48;
+
+pub const NAME_LENGTH: usize = 30;
+
+// "1 to 64 windows", "0 to 64 ports", "0 to 32 channels".
+pub const MOST_WINDOWS: usize = 64;
+
+pub const MOST_PORTS: usize = 64;
+
+pub const MOST_CHANNELS: usize = 32;
+
+// What stands for a partition in a mover window.
+pub const MOVER: u8 = 32;
+
+// The modes and the directions of a port.
+pub const SAMPLING: u8 = 0;
+
+pub const QUEUING: u8 = 1;
+
+pub const SOURCE: u8 = 0;
+
+pub const DESTINATION: u8 = 1;
 
 // What a load says of tables. `verdictOf` of specs/Shown.antt gives the paper's number and record for each case.
 pub enum Verdict {

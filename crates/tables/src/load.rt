@@ -1,12 +1,17 @@
 // 01, "Load refusals": what is wrong with a record, the first offending record, and the verdict.
-ghost use Prim.Native.Nat.{_-_, _<_, _≤_};
+ghost use Prim.Native.Nat.{_-_, _<_};
 ghost use mathlib.Core.Path.{_≡_};
 ghost use mathlib.Core.Bool.{_&&_};
 ghost use lib.Dec.{ltb};
 ghost use Rattle.model.specs.Tables.{records, kind, windows, portsEnd};
 ghost use Rattle.model.specs.Load.{lengthFault, kindFault, countFault, fault, firstFault, loadOf};
 ghost use Rattle.tables.specs.Shown.{verdictOf};
+ghost use Rattle.tables.specs.Pieces.{lowest};
 ghost use Rattle.tables.specs.Known.{Placed, FaultlessBefore};
+use super::MOST_CHANNELS;
+use super::MOST_PORTS;
+use super::MOST_WINDOWS;
+use super::RECORD_SIZE;
 use super::Verdict;
 use super::bytes::wide;
 use super::ends::end_fault;
@@ -22,7 +27,7 @@ use super::names::name_fault;
 fn length_fault(t: &[u8]) -> bool
     ensures { λ faulty. ⌜ faulty ≡ lengthFault (now (t .entry)) ⌝ }
 {
-    t.len() == 0 || t.len() % 48 != 0
+    t.len() == 0 || t.len() % RECORD_SIZE != 0
 }
 
 // The kind of record r is below that of the record before it.
@@ -58,36 +63,50 @@ fn count_fault(t: &[u8], first_port: usize, first_channel: usize, r: usize) -> b
 {
     let k = kind(t, r);
     if k == 1 {
-        return 64 <= r;
+        return MOST_WINDOWS <= r;
     }
     if k == 2 {
-        return 64 <= beyond(r, first_port);
+        return MOST_PORTS <= beyond(r, first_port);
     }
-    32 <= beyond(r, first_channel)
+    MOST_CHANNELS <= beyond(r, first_channel)
 }
 
-// The number of the fault of record r, 0 where there is none. Within a record the lower number is reported.
+// Of the five tests of a record, 21 to 25, the lowest number whose test found a fault, 0 where none did: "within a record the lower
+// number is reported".
+fn lowest(kind: bool, count: bool, field: bool, name: bool, end: bool) -> u8
+    ensures { λ number. ⌜ number ≡ lowest kind count field name end ⌝ }
+{
+    if kind {
+        return 21;
+    }
+    if count {
+        return 22;
+    }
+    if field {
+        return 23;
+    }
+    if name {
+        return 24;
+    }
+    if end {
+        return 25;
+    }
+    0
+}
+
+// The number of the fault of record r, 0 where there is none.
 fn fault(t: &[u8], first_port: usize, first_channel: usize, r: usize) -> u8
     requires { ⌜ Placed (now t) «first_port» «first_channel» r ⌝ }
     requires { ⌜ FaultlessBefore (now t) r ⌝ }
     ensures { λ number. ⌜ number ≡ fault (now (t .entry)) r ⌝ }
 {
-    if kind_fault(t, r) {
-        return 21;
-    }
-    if count_fault(t, first_port, first_channel, r) {
-        return 22;
-    }
-    if field_fault(t, r) {
-        return 23;
-    }
-    if name_fault(t, first_port, r) {
-        return 24;
-    }
-    if end_fault(t, first_port, first_channel, r) {
-        return 25;
-    }
-    0
+    lowest(
+        kind_fault(t, r),
+        count_fault(t, first_port, first_channel, r),
+        field_fault(t, r),
+        name_fault(t, first_port, r),
+        end_fault(t, first_port, first_channel, r),
+    )
 }
 
 // The first offending record, or the number of records.

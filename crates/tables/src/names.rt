@@ -7,6 +7,8 @@ ghost use lib.ListN.{length};
 ghost use Rattle.model.specs.Tables.{records, windows, sameName};
 ghost use Rattle.model.specs.Load.{nameFits, sameOwnerAndName, portNameFault, nameFault};
 ghost use Rattle.tables.specs.Pieces.{ended, namedEarlier};
+use super::NAME_LENGTH;
+use super::RECORD_SIZE;
 use super::layout::kind;
 
 // Of two bytes in a row of a name: after a zero there is only zero.
@@ -16,7 +18,7 @@ fn may_follow(before: u8, after: u8) -> bool
     before != 0 || after == 0
 }
 
-// After the first zero of the name at a place all is zero.
+// After the first zero of the name at a place all is zero: each of its first 29 bytes is looked at with the one after it.
 fn name_ended(t: &[u8], at: usize) -> bool
     requires { ⌜ at + 30 ≤ length (now t) ⌝ }
     ensures { λ r. ⌜ r ≡ ended (now (t .entry)) at ⌝ }
@@ -45,7 +47,7 @@ pub fn same_name(a: &[u8], at: usize, b: &[u8], bt: usize) -> bool
     ensures { λ r. ⌜ r ≡ sameName (now (a .entry)) at (now (b .entry)) bt ⌝ }
 {
     let mut k = 0;
-    while k < 30 {
+    while k < NAME_LENGTH {
         if a[at + k] != b[bt + k] {
             return false;
         }
@@ -59,7 +61,8 @@ fn same_owner_and_name(t: &[u8], r: usize, q: usize) -> bool
     requires { ⌜ q < records (now t) ⌝ }
     ensures { λ same. ⌜ same ≡ sameOwnerAndName (now (t .entry)) r q ⌝ }
 {
-    t[48 * q + 1] == t[48 * r + 1] && same_name(t, 48 * q + 16, t, 48 * r + 16)
+    t[RECORD_SIZE * q + 1] == t[RECORD_SIZE * r + 1]
+        && same_name(t, RECORD_SIZE * q + 16, t, RECORD_SIZE * r + 16)
 }
 
 // An earlier port has the owner and name of the port in record r.
@@ -83,7 +86,7 @@ fn port_name_fault(t: &[u8], first_port: usize, r: usize) -> bool
     requires { ⌜ r < records (now t) ⌝ }
     ensures { λ faulty. ⌜ faulty ≡ portNameFault (now (t .entry)) r ⌝ }
 {
-    !name_fits(t, 48 * r + 16) || named_earlier(t, first_port, r)
+    !name_fits(t, RECORD_SIZE * r + 16) || named_earlier(t, first_port, r)
 }
 
 pub fn name_fault(t: &[u8], first_port: usize, r: usize) -> bool

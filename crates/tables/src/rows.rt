@@ -4,6 +4,9 @@ ghost use mathlib.Core.Path.{_≡_};
 ghost use Rattle.model.specs.Tables.{records, rowAt};
 ghost use Rattle.tables.specs.Shown.{modeOf, depthOf, refreshOf, transferOf, decoded};
 use super::PortRow;
+use super::QUEUING;
+use super::RECORD_SIZE;
+use super::SAMPLING;
 use super::Transfer;
 use super::bytes::word32;
 
@@ -12,7 +15,7 @@ pub fn port_row(t: &[u8], r: usize) -> PortRow
     requires { ⌜ r < records (now t) ⌝ }
     ensures { λ row. ⌜ row ≡ decoded (rowAt (now (t .entry)) r) ⌝ }
 {
-    let at = 48 * r;
+    let at = RECORD_SIZE * r;
     let transfer = transfer_of(t[at + 2], word32(t, at + 8), word32(t, at + 12));
     PortRow {
         owner: t[at + 1],
@@ -25,7 +28,7 @@ pub fn port_row(t: &[u8], r: usize) -> PortRow
 fn transfer_of(mode: u8, depth: u32, refresh: u32) -> Transfer
     ensures { λ r. ⌜ r ≡ transferOf mode depth refresh ⌝ }
 {
-    if mode == 0 {
+    if mode == SAMPLING {
         Transfer::Sampling(refresh)
     } else {
         Transfer::Queuing(depth)
@@ -37,8 +40,8 @@ pub fn mode(transfer: Transfer) -> u8
     ensures { λ r. ⌜ r ≡ modeOf transfer ⌝ }
 {
     match transfer {
-        Transfer::Sampling(_) => 0,
-        Transfer::Queuing(_) => 1,
+        Transfer::Sampling(_) => SAMPLING,
+        Transfer::Queuing(_) => QUEUING,
     }
 }
 

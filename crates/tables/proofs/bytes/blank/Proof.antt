@@ -3,19 +3,13 @@
 use borrow.Author.Needs.{needs}
 use Rattle.tables.proofs.bytes.blank.Statement.{statement}
 use Rattle.tables.proofs.bytes.blank.Tie as tie
-use Prim.Native.Nat.{ℕ, _+_, _-_, _≤_}
+use Prim.Native.Nat.{_-_, _≤_}
 use mathlib.Core.Path.{_≡_, sym, _∙_}
-use mathlib.Core.Bool.{Bool}
-use mathlib.Core.List.{List}
-use native.Mathlib.Nat.{add-sub-cancel-left}
 use native.Mathlib.Omega.{arith}
 use borrow.Author.Tests.{eq-eqb, ne-eqb}
-use lib.Dec.{eqb}
-use Rattle.model.specs.Words.{byte, blank}
+use Rattle.model.specs.Words.{blank}
 use Rattle.model.proofs.Searches.{all-more, all-stop, all-end}
-
-abbrev isZero : List ℕ → ℕ → Bool
-isZero t k = eqb (byte t k) 0
+use Rattle.tables.proofs.Searched.{isZero, blank-whole}
 
 abbrev Inv-loop : tie.InvT-loop
 Inv-loop t n at end k₀ k = (k ≤ end) × (blank t n at ≡ blank t (end - k) k)
@@ -27,7 +21,7 @@ add-end : tie.Need-add-end Inv-loop μ-loop
 add-end c = search needs
 
 loop-holds : tie.Need-loop-holds Inv-loop μ-loop
-loop-holds c = (omega arith, rw add-sub-cancel-left)
+loop-holds c = (omega arith, blank-whole (c .args .t .now) (c .args .n) (c .args .at))
 
 shared-slice-read-if1 : tie.Need-shared-slice-read-if1 Inv-loop μ-loop
 shared-slice-read-if1 c = search needs

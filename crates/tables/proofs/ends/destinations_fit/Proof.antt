@@ -3,7 +3,7 @@
 use borrow.Author.Needs.{needs}
 use Rattle.tables.proofs.ends.destinations_fit.Statement.{statement}
 use Rattle.tables.proofs.ends.destinations_fit.Tie as tie
-use Prim.Native.Nat.{ℕ, suc, _+_, _-_, _*_, _≤_}
+use Prim.Native.Nat.{_+_, _-_, _*_, _≤_}
 use mathlib.Core.Path.{_≡_, sym, _∙_}
 use native.Mathlib.Omega.{arith}
 use Rattle.model.specs.Words.{all}
@@ -11,10 +11,7 @@ use Rattle.model.specs.Load.{ends, endFits}
 use Rattle.model.proofs.Searches.{all-more, all-stop, all-end}
 use Rattle.tables.specs.Pieces.{destinationsFit}
 use Rattle.tables.proofs.Answers.{fails, holds}
-
--- past end 0 the destinations are left
-rest : (end count : ℕ) → end ≡ suc count → end - 1 ≡ count
-rest end count e = omega arith
+use Rattle.tables.proofs.Searched.{destinations-whole}
 
 abbrev Inv-loop : tie.InvT-loop
 Inv-loop t first-port first-channel r source end j₀ j = (1 ≤ j) × (end ≡ ends t r) × (destinationsFit t r ≡ all (endFits t r) (end - j) j)
@@ -26,7 +23,7 @@ end-count-requires : tie.Need-end-count-requires Inv-loop μ-loop
 end-count-requires c κs = search needs
 
 loop-holds : tie.Need-loop-holds Inv-loop μ-loop
-loop-holds c = (omega arith, c .end-count .ensures, rw (rest _ _ (c .end-count .ensures)))
+loop-holds c = (omega arith, c .end-count .ensures, destinations-whole _ _ _ (c .end-count .ensures))
 
 destination-fits-requires : tie.Need-destination-fits-requires Inv-loop μ-loop
 destination-fits-requires c κs =

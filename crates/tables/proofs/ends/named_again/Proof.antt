@@ -5,12 +5,12 @@ use Rattle.tables.proofs.ends.named_again.Statement.{statement}
 use Rattle.tables.proofs.ends.named_again.Tie as tie
 use Prim.Native.Nat.{_+_, _-_, _*_}
 use mathlib.Core.Path.{_≡_, sym, _∙_}
-use native.Mathlib.Nat.{sub-zero}
 use native.Mathlib.Omega.{arith}
 use Rattle.model.specs.Words.{any}
 use Rattle.model.specs.Load.{ends, namedBefore}
 use Rattle.model.proofs.Searches.{any-more, any-stop, any-end}
 use Rattle.tables.specs.Pieces.{namedAgain}
+use Rattle.tables.proofs.Searched.{again-whole}
 
 abbrev Inv-loop : tie.InvT-loop
 Inv-loop t first-channel r end j₀ j = (end ≡ ends t r) × (namedAgain t r ≡ any (namedBefore t r) (end - j) j)
@@ -22,7 +22,7 @@ end-count-requires : tie.Need-end-count-requires Inv-loop μ-loop
 end-count-requires c κs = search needs
 
 loop-holds : tie.Need-loop-holds Inv-loop μ-loop
-loop-holds c = (c .end-count .ensures, rw (sub-zero, c .end-count .ensures))
+loop-holds c = (c .end-count .ensures, again-whole _ _ _ (c .end-count .ensures))
 
 named-before-requires : tie.Need-named-before-requires Inv-loop μ-loop
 named-before-requires c κs =

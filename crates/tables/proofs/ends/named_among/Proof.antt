@@ -3,19 +3,13 @@
 use borrow.Author.Needs.{needs}
 use Rattle.tables.proofs.ends.named_among.Statement.{statement}
 use Rattle.tables.proofs.ends.named_among.Tie as tie
-use Prim.Native.Nat.{ℕ, _-_}
+use Prim.Native.Nat.{_-_}
 use mathlib.Core.Path.{_≡_, sym, _∙_}
-use mathlib.Core.Bool.{Bool}
-use native.Mathlib.Nat.{sub-zero}
 use borrow.Author.Tests.{eq-eqb, ne-eqb}
-use lib.Dec.{eqb}
 use Rattle.model.specs.Words.{any}
-use Rattle.model.specs.Tables.{Tables, endAt}
 use Rattle.model.specs.Load.{namedAmong}
 use Rattle.model.proofs.Searches.{any-more, any-stop, any-end}
-
-abbrev isEnd : Tables → ℕ → ℕ → ℕ → Bool
-isEnd t id q i = eqb (endAt t q i) id
+use Rattle.tables.proofs.Searched.{isEnd, among-whole}
 
 abbrev Inv-loop : tie.InvT-loop
 Inv-loop t id n q i₀ i = namedAmong t id n q ≡ any (isEnd t id q) (n - i) i
@@ -24,8 +18,7 @@ abbrev μ-loop : tie.MeasureT-loop
 μ-loop t id n q i₀ i = n - i
 
 loop-holds : tie.Need-loop-holds Inv-loop μ-loop
-unfolding namedAmong
-loop-holds c = rw sub-zero
+loop-holds c = among-whole _ _ _ _
 
 end-at-requires : tie.Need-end-at-requires Inv-loop μ-loop
 end-at-requires c κs = search needs

@@ -5,16 +5,12 @@ use Rattle.tables.proofs.ends.named_in_earlier.Statement.{statement}
 use Rattle.tables.proofs.ends.named_in_earlier.Tie as tie
 use Prim.Native.Nat.{ℕ, _+_, _-_, _*_}
 use mathlib.Core.Path.{_≡_, ap, sym, _∙_}
-use mathlib.Core.Bool.{Bool}
 use native.Mathlib.Omega.{arith}
 use Rattle.model.specs.Words.{any}
-use Rattle.model.specs.Tables.{Tables}
-use Rattle.model.specs.Load.{ends, namedAmong}
+use Rattle.model.specs.Load.{namedAmong}
 use Rattle.model.proofs.Searches.{any-more, any-stop, any-end}
 use Rattle.tables.specs.Pieces.{namedInEarlier}
-
-abbrev names : Tables → ℕ → ℕ → Bool
-names t id q = namedAmong t id (ends t q) q
+use Rattle.tables.proofs.Searched.{names}
 
 abbrev Inv-loop : tie.InvT-loop
 Inv-loop t first-channel id r q₀ q = namedInEarlier t id r ≡ any (names t id) (r - q) q

@@ -3,7 +3,6 @@
 use borrow.Author.Needs.{needs}
 use Rattle.tables.proofs.ends.takes_from.Statement.{statement}
 use Rattle.tables.proofs.ends.takes_from.Tie as tie
-use mathlib.Core.Path.{sym, _∙_}
 use borrow.Author.Tests.{eq-eqb, ne-eqb}
 
 returns : tie.Need-returns

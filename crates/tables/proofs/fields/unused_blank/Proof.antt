@@ -3,24 +3,13 @@
 use borrow.Author.Needs.{needs}
 use Rattle.tables.proofs.fields.unused_blank.Statement.{statement}
 use Rattle.tables.proofs.fields.unused_blank.Tie as tie
-use Prim.Native.Nat.{ℕ, suc, _-_}
+use Prim.Native.Nat.{_-_}
 use mathlib.Core.Path.{_≡_, sym, _∙_}
-use mathlib.Core.Bool.{Bool}
-use native.Mathlib.Numerals.{add-one}
-use native.Mathlib.Omega.{arith}
 use borrow.Author.Tests.{eq-eqb, ne-eqb}
-use lib.Dec.{eqb}
 use Rattle.model.specs.Words.{all}
-use Rattle.model.specs.Tables.{Tables, endAt}
 use Rattle.model.proofs.Searches.{all-more, all-stop, all-end}
 use Rattle.tables.specs.Pieces.{unusedBlank}
-
-abbrev isUnused : Tables → ℕ → ℕ → Bool
-isUnused t r j = eqb (endAt t r j) 0
-
--- the eight ids end at 9, where a search that begins after the count began
-rest : (count : ℕ) → 9 - suc count ≡ 8 - count
-rest count = omega arith
+use Rattle.tables.proofs.Searched.{isUnused, unused-whole}
 
 abbrev Inv-loop : tie.InvT-loop
 Inv-loop t r count j₀ j = unusedBlank t r count ≡ all (isUnused t r) (9 - j) j
@@ -32,7 +21,7 @@ add-j : tie.Need-add-j Inv-loop μ-loop
 add-j c = search needs
 
 loop-holds : tie.Need-loop-holds Inv-loop μ-loop
-loop-holds c = rw (add-one, rest)
+loop-holds c = unused-whole (c .before .args .t .now) (c .before .args .r) (c .before .args .count)
 
 id-at-requires : tie.Need-id-at-requires Inv-loop μ-loop
 id-at-requires c κs = search needs

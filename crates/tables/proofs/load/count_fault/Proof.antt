@@ -3,7 +3,6 @@
 use borrow.Author.Needs.{needs}
 use Rattle.tables.proofs.load.count_fault.Statement.{statement}
 use Rattle.tables.proofs.load.count_fault.Tie as tie
-use mathlib.Core.Path.{sym, _∙_}
 use borrow.Author.Tests.{ne-eqb}
 use Rattle.model.specs.Load.{countFault}
 

@@ -3,7 +3,6 @@
 use borrow.Author.Needs.{needs}
 use Rattle.tables.proofs.load.judge.Statement.{statement}
 use Rattle.tables.proofs.load.judge.Tie as tie
-use mathlib.Core.Path.{sym, _∙_}
 use native.Mathlib.Omega.{arith}
 use borrow.Author.Tests.{eq-eqb, ne-eqb, lt-ltb, le-ltb}
 use Rattle.model.specs.Load.{loadOf}

@@ -3,19 +3,14 @@
 use borrow.Author.Needs.{needs}
 use Rattle.tables.proofs.names.name_ended.Statement.{statement}
 use Rattle.tables.proofs.names.name_ended.Tie as tie
-use Prim.Native.Nat.{ℕ, suc, _+_, _-_}
+use Prim.Native.Nat.{_-_}
 use mathlib.Core.Path.{_≡_, sym, _∙_}
-use mathlib.Core.Bool.{Bool, _||_, not}
 use native.Mathlib.Numerals.{add-one}
-use lib.Dec.{eqb}
-use Rattle.model.specs.Words.{all, byte}
-use Rattle.model.specs.Tables.{Tables}
+use Rattle.model.specs.Words.{all}
 use Rattle.model.proofs.Searches.{all-more, all-stop, all-end}
 use Rattle.tables.specs.Pieces.{ended}
 use Rattle.tables.proofs.Answers.{fails, holds}
-
-abbrev follows : Tables → ℕ → ℕ → Bool
-follows t at k = not (eqb (byte t (at + k)) 0) || eqb (byte t (at + suc k)) 0
+use Rattle.tables.proofs.Searched.{follows}
 
 abbrev Inv-loop : tie.InvT-loop
 Inv-loop t at k₀ k = ended t at ≡ all (follows t at) (29 - k) k

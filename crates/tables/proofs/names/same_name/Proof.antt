@@ -3,18 +3,13 @@
 use borrow.Author.Needs.{needs}
 use Rattle.tables.proofs.names.same_name.Statement.{statement}
 use Rattle.tables.proofs.names.same_name.Tie as tie
-use Prim.Native.Nat.{ℕ, _+_, _-_}
+use Prim.Native.Nat.{_-_}
 use mathlib.Core.Path.{_≡_, sym, _∙_}
-use mathlib.Core.Bool.{Bool}
-use mathlib.Core.List.{List}
 use borrow.Author.Tests.{eq-eqb, ne-eqb}
-use lib.Dec.{eqb}
-use Rattle.model.specs.Words.{all, byte}
+use Rattle.model.specs.Words.{all}
 use Rattle.model.specs.Tables.{sameName}
 use Rattle.model.proofs.Searches.{all-more, all-stop, all-end}
-
-abbrev sameAt : List ℕ → ℕ → List ℕ → ℕ → ℕ → Bool
-sameAt a at b bt k = eqb (byte a (at + k)) (byte b (bt + k))
+use Rattle.tables.proofs.Searched.{sameAt, name-whole}
 
 abbrev Inv-loop : tie.InvT-loop
 Inv-loop a at b bt k₀ k = sameName a at b bt ≡ all (sameAt a at b bt) (30 - k) k
@@ -23,8 +18,7 @@ abbrev μ-loop : tie.MeasureT-loop
 μ-loop a at b bt k₀ k = 30 - k
 
 loop-holds : tie.Need-loop-holds Inv-loop μ-loop
-unfolding sameName
-loop-holds c = search needs
+loop-holds c = name-whole _ _ _ _
 
 add-if1 : tie.Need-add-if1 Inv-loop μ-loop
 add-if1 c = search needs
