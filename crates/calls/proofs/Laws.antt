@@ -13,9 +13,9 @@ use Rattle.model.specs.Tables.{Tables, records, windows, Row, rowAt, row}
 use Rattle.model.specs.Tables.{ports as portCount}
 use Rattle.model.specs.State.{Clock, Port, State, modeOf, port, withPort, withQueue, fresh, isCreated}
 use Rattle.model.specs.Events.{Event, Call, need}
-use Rattle.model.specs.Services.{Reply, refuse, done, Served, refuses, serves, atPort, own, useOwn, serve, likeRow, made, lookUp, create, getId}
+use Rattle.model.specs.Services.{Reply, refuse, done, Served, refuses, serves, atPort, own, useOwn, serve, likeRow, made, lookUp, create, getId, setMode, withMode, unmade}
 use Rattle.model.specs.Step.{stateOf}
-use Rattle.model.specs.Answers.{toldId}
+use Rattle.model.specs.Answers.{nothingTold, toldId}
 use Rattle.model.proofs.Tests.{both-left, both-right, between-low, between-high}
 use Rattle.model.proofs.Accepted.{Accepted, accepted}
 use Rattle.model.proofs.Rows.{RowRanges}
@@ -199,7 +199,7 @@ module _ (id mode : ℕ) (r : Row) (f : Call) (q : Port) where
   made-normal a b m = rw (ne-eqb (q .created) 1 a, b, eq-eqb mode 3 m)
 
   pub made-done : (q .created ≡ 1 → ⊥) → likeRow r f ≡ true → (mode ≡ 3 → ⊥)
-    → made id mode r f q ≡ serves (toldId id) (record { created = 1; arrival = q .arrival; validity = q .validity; queue = q .queue })
+      → made id mode r f q ≡ serves (toldId id) (record { created = 1; arrival = q .arrival; validity = q .validity; queue = q .queue })
   unfolding made
   made-done a b m = rw (ne-eqb (q .created) 1 a, b, ne-eqb mode 3 m)
 
@@ -227,7 +227,7 @@ module _ (t : Tables) (s : State) (p : ℕ) (e : Event) (f : Call) (k : ℕ) (fo
 
 -- a port's row with its marks, arrival and count zero is a port that is not created
 pub unmade-row : {n₀ n₁ n₂ n₃ n₄ : List ℕ} {k : ℕ} → RowPut n₀ n₁ k (set (rowOf n₀ k) 0 0) → RowPut n₁ n₂ k (set (rowOf n₁ k) 1 0) → RowPut n₂ n₃ k (set (rowOf n₂ k) 2 0)
-  → RowPut n₃ n₄ k (set (rowOf n₃ k) 4 0) → (bytes : List ℕ) → PortPut n₀ bytes n₄ bytes k fresh
+    → RowPut n₃ n₄ k (set (rowOf n₃ k) 4 0) → (bytes : List ℕ) → PortPut n₀ bytes n₄ bytes k fresh
 unfolding rowOf
 unmade-row {n₀} {n₁} {n₂} {n₃} {n₄} {k} a b c d bytes =
     let ab = row-again a (row-is b (ap (λ r. set r 1 0) (a .here))) in
@@ -235,3 +235,26 @@ unmade-row {n₀} {n₁} {n₂} {n₃} {n₄} {k} a b c d bytes =
     let abcd = row-again abc (row-is d (ap (λ r. set r 4 0) (abc .here))) in
     put-is (port-put abcd (block-kept bytes k))
     (ap (withQueue fresh) (queue-empty (storeIn (set (set (set (set (rowOf n₀ k) 0 0) 1 0) 2 0) 4 0) (blockOf bytes k)) refl))
+
+-- set mode, case by case
+module _ (t : Tables) (s : State) (p m : ℕ) where
+  pub mode-unknown : 3 < m → setMode t s p m ≡ refuse 3
+  unfolding setMode
+  mode-unknown a = rw (lt-ltb 3 m a)
+
+  pub mode-again : m ≡ 3 → modeOf s p ≡ 3 → setMode t s p m ≡ refuse 1
+  unfolding setMode
+  mode-again a b = rw (le-ltb 3 m (omega arith), eq-eqb m 3 a, eq-eqb (modeOf s p) 3 b)
+
+  pub mode-normal : m ≡ 3 → (modeOf s p ≡ 3 → ⊥) → setMode t s p m ≡ done nothingTold (record { clock = s .clock; modes = set (s .modes) p m; ports = s .ports })
+  unfolding setMode withMode
+  mode-normal a b = simp (le-ltb 3 m (omega arith), eq-eqb m 3 a, ne-eqb (modeOf s p) 3 b, ne-eqb m 2 (omega arith))
+
+  pub mode-cold : m ≡ 2 → modeOf s p ≡ 1 → setMode t s p m ≡ refuse 5
+  unfolding setMode
+  mode-cold a b = rw (le-ltb 3 m (omega arith), ne-eqb m 3 (omega arith), eq-eqb m 2 a, eq-eqb (modeOf s p) 1 b)
+
+  pub mode-start : m ≤ 3 → (m ≡ 3 → ⊥) → (eqb m 2 && eqb (modeOf s p) 1) ≡ false
+      → setMode t s p m ≡ done nothingTold (record { clock = s .clock; modes = set (s .modes) p m; ports = unmade t p 0 (s .ports) })
+  unfolding setMode withMode
+  mode-start l a b = simp (le-ltb 3 m l, ne-eqb m 3 a, b)

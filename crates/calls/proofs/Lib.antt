@@ -1,3 +1,4 @@
 pub mod LookUp
 pub mod Laws
 pub mod Sweep
+pub mod ByCode

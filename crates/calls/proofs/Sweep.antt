@@ -66,6 +66,6 @@ module _ (t : Tables) (p : ℕ) (before : List ℕ) where
           ports-at now bytes n i l
           ∙ h bytes i
           ∙ (rw (lt-ltb i n l) (sym
-            (unmade-at t p 0 (portsOf before bytes n) i (omega (arith, ports-length before bytes n))
-            ∙ ap (λ j. if eqb (row t j .owner) p then fresh else getD (portsOf before bytes n) i fresh) (zero-add i)
-            ∙ ap (λ q. if eqb (row t i .owner) p then fresh else q) (ports-at before bytes n i l))))
+          (unmade-at t p 0 (portsOf before bytes n) i (omega (arith, ports-length before bytes n))
+          ∙ ap (λ j. if eqb (row t j .owner) p then fresh else getD (portsOf before bytes n) i fresh) (zero-add i)
+          ∙ ap (λ q. if eqb (row t i .owner) p then fresh else q) (ports-at before bytes n i l))))

@@ -41,7 +41,7 @@ need-requires c κs = search needs
 
 -- src/creating.rt:89:9
 look-up-requires : tie.Need-look-up-requires
-look-up-requires c κs = 
+look-up-requires c κs =
     let s = c .before .before .before .before .before .before in
     let t = s .args .t .now in
     let n = s .args .numbers .now in
@@ -58,7 +58,7 @@ refusal-requires c κs = search needs
 
 -- src/creating.rt:91:9
 returns : tie.Need-returns
-returns c = 
+returns c =
     let s = c .before .before .before .before .before .before .before .before .before .before in
     let t = s .args .t .now in
     let n = s .args .numbers .now in
@@ -74,7 +74,7 @@ returns c =
 
 -- src/creating.rt:93:35
 add-port-row : tie.Need-add-port-row
-add-port-row c = 
+add-port-row c =
     let s = c .before .before .before .before .before .before .before .before .before .before in
     let t = s .args .t .now in
     let n = s .args .numbers .now in
@@ -90,7 +90,7 @@ add-port-row c =
 
 -- src/creating.rt:93:9
 port-row-requires : tie.Need-port-row-requires
-port-row-requires c κs = 
+port-row-requires c κs =
     let s = c .before .before .before .before .before .before .before .before .before .before in
     let t = s .args .t .now in
     let n = s .args .numbers .now in
@@ -110,7 +110,7 @@ shared-slice-read-make c = search needs
 
 -- src/creating.rt:94:5
 make-requires : tie.Need-make-requires
-make-requires c κs = 
+make-requires c κs =
     let s = c .before .before .before .before .before .before .before .before .before .before .before .before .before in
     let t = s .args .t .now in
     let n = s .args .numbers .now in
@@ -130,7 +130,7 @@ same-length c = search needs
 
 -- src/creating.rt:73:1
 returns-2 : tie.Need-returns-2
-returns-2 c = 
+returns-2 c =
     let s = c .before .before .before .before .before .before .before .before .before .before .before .before .before .before .before .before in
     let t = s .args .t .now in
     let n = s .args .numbers .now in
@@ -147,14 +147,14 @@ returns-2 c =
     let modes = s .args .modes .now in
     let after = c .before .before .make .last .0 in
     λ clock.
-      let st = shown t clock modes n b in
-      let served = made (suc k) (modeOf st p) (row t k) f (port st k) in
-      let same : made (k + 1) (getD modes p 0) (Shown.rowOf (c .before .before .before .before .before .port-row .result)) f (portAt n b k) ≡ served =
-        ap (λ i. made i (getD modes p 0) (Shown.rowOf (c .before .before .before .before .before .port-row .result)) f (portAt n b k)) (add-one k)
-        ∙ ap₂ (λ x q. made (suc k) (getD modes p 0) x f q) shows (sym (Laws.shown-port t clock modes n b k there))
-      in
-      subst (λ x. Does st x p (c .before .before .make .result) (shown t clock modes after b)) (sym (Laws.create-found t st p e f k found there))
-      (Laws.serves-does t clock modes n b after b k p (c .before .before .make .result) served there (subst (Serves n b after b k p (c .before .before .make .result)) same (c .before .before .make .ensures)))
+    let st = shown t clock modes n b in
+    let served = made (suc k) (modeOf st p) (row t k) f (port st k) in
+    let same : made (k + 1) (getD modes p 0) (Shown.rowOf (c .before .before .before .before .before .port-row .result)) f (portAt n b k) ≡ served =
+    ap (λ i. made i (getD modes p 0) (Shown.rowOf (c .before .before .before .before .before .port-row .result)) f (portAt n b k)) (add-one k)
+    ∙ ap₂ (λ x q. made (suc k) (getD modes p 0) x f q) shows (sym (Laws.shown-port t clock modes n b k there))
+    in
+    subst (λ x. Does st x p (c .before .before .make .result) (shown t clock modes after b)) (sym (Laws.create-found t st p e f k found there))
+    (Laws.serves-does t clock modes n b after b k p (c .before .before .make .result) served there (subst (Serves n b after b k p (c .before .before .make .result)) same (c .before .before .make .ensures)))
 
 pub create-spec : {M : Type 1} → statement M
 create-spec =

@@ -41,7 +41,7 @@ need-requires c κs = search needs
 
 -- src/creating.rt:112:9
 look-up-requires : tie.Need-look-up-requires
-look-up-requires c κs = 
+look-up-requires c κs =
     let s = c .before .before .before .before .before in
     let t = s .args .t .now in
     let n = s .args .numbers .now in
@@ -58,7 +58,7 @@ refusal-requires c κs = search needs
 
 -- src/creating.rt:114:9
 returns : tie.Need-returns
-returns c = 
+returns c =
     let s = c .before .before .before .before .before .before .before .before .before in
     let t = s .args .t .now in
     let n = s .args .numbers .now in
@@ -74,7 +74,7 @@ returns c =
 
 -- src/creating.rt:116:8
 number-requires : tie.Need-number-requires
-number-requires c κs = 
+number-requires c κs =
     let s = c .before .before .before .before .before .before .before .before in
     let t = s .args .t .now in
     let n = s .args .numbers .now in
@@ -94,7 +94,7 @@ refusal-requires-2 c κs = search needs
 
 -- src/creating.rt:117:9
 returns-2 : tie.Need-returns-2
-returns-2 c = 
+returns-2 c =
     let s = c .before .before .before .before .before .before .before .before .before .before .before in
     let t = s .args .t .now in
     let n = s .args .numbers .now in
@@ -117,7 +117,7 @@ add-told-id c = search needs
 
 -- src/creating.rt:119:24
 cast-told-id : tie.Need-cast-told-id
-cast-told-id c = 
+cast-told-id c =
     let s = c .before .before .before .before .before .before .before .before .before .before in
     let t = s .args .t .now in
     let n = s .args .numbers .now in
@@ -137,7 +137,7 @@ told-id-requires c κs = search needs
 
 -- src/creating.rt:98:1
 returns-3 : tie.Need-returns-3
-returns-3 c = 
+returns-3 c =
     let s = c .before .before .before .before .before .before .before .before .before .before .before in
     let t = s .args .t .now in
     let n = s .args .numbers .now in

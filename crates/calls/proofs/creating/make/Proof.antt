@@ -44,7 +44,7 @@ same-length c = search needs
 
 -- src/creating.rt:60:9
 returns : tie.Need-returns
-returns c = 
+returns c =
     let s = c .before .before .before .before .before .before in
     let n = s .args .numbers .now in
     let b = s .args .bytes .now in
@@ -70,7 +70,7 @@ same-length-2 c = search needs
 
 -- src/creating.rt:63:9
 returns-2 : tie.Need-returns-2
-returns-2 c = 
+returns-2 c =
     let s = c .before .before .before .before .before .before .before .before in
     let n = s .args .numbers .now in
     let b = s .args .bytes .now in
@@ -92,7 +92,7 @@ same-length-3 c = search needs
 
 -- src/creating.rt:66:9
 returns-3 : tie.Need-returns-3
-returns-3 c = 
+returns-3 c =
     let s = c .before .before .before .before .before .before .before .before .before in
     let n = s .args .numbers .now in
     let b = s .args .bytes .now in
@@ -126,7 +126,7 @@ same-length-4 c = search needs
 
 -- src/creating.rt:47:1
 returns-4 : tie.Need-returns-4
-returns-4 c = 
+returns-4 c =
     let s = c .before .before .before .before .before .before .before .before .before .before .before .before .before in
     let n = s .args .numbers .now in
     let b = s .args .bytes .now in

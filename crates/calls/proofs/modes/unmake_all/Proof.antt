@@ -41,7 +41,14 @@ shared-slice-read-if2 c = search needs
 
 -- src/modes.rt:35:13
 unmake-requires : tie.Need-unmake-requires Inv-loop μ-loop
-unmake-requires c κs = ?u
+unmake-requires c κs =
+    let s = c .before .before .before .before .before .before .before .before .before in
+    let t = s .args .t .now in
+    let p = s .args .p in
+    let n = s .args .numbers .now in
+    let l = c .before .before .before .before .before .before .loop in
+    let inside : l .k < ports t = omega (arith, s .pre .0 .laid .ported, c .before .before .before .before .if1 .taken) in
+    (l .inv .1 ∙ s .pre .1, omega (arith, inside, s .pre .0 .few))
 
 -- src/modes.rt:37:13
 add-k : tie.Need-add-k Inv-loop μ-loop
@@ -53,7 +60,24 @@ loop-less c = search needs
 
 -- src/modes.rt:33:5
 loop-again : tie.Need-loop-again Inv-loop μ-loop
-loop-again c = ?a
+unfolding rowAt
+loop-again c =
+    let s = c .before .before .before .before .before .before .before .before in
+    let t = s .args .t .now in
+    let p = s .args .p in
+    let n = s .args .numbers .now in
+    let l = c .before .before .before .before .before .loop in
+    let inside : l .k < ports t = omega (arith, s .pre .0 .laid .ported, c .before .before .before .if1 .taken) in
+    let more : l .k + 1 ≤ ports t = omega arith in
+    let v = s .pre .0 .laid .windowed in
+    ⊎-elim
+    (λ w. (
+      more,
+      ap length (w .5) ∙ w .2 .kept .0 ∙ l .inv .1,
+      subst (Swept t p (l .k + 1) n) (sym (w .5)) (swept-taken t p n (l .k) (l .numbers) (w .2 .last .0) (l .inv .2) (rw v at (w .0 .taken)) (w .2 .ensures)),
+    ))
+    (λ w. (more, ap length (w .1) ∙ l .inv .1, subst (Swept t p (l .k + 1) n) (sym (w .1)) (swept-kept t p n (l .k) (l .numbers) (l .inv .2) (rw v at (w .0 .left)))))
+    (c .if2 .came)
 
 -- src/modes.rt:27:1
 same-length : tie.Need-same-length Inv-loop μ-loop
@@ -61,7 +85,11 @@ same-length c = search needs
 
 -- src/modes.rt:27:1
 returns : tie.Need-returns Inv-loop μ-loop
-returns c = ?r
+returns c =
+    let s = c .before .before .before .before .before in
+    let l = c .before .before .loop in
+    let all : l .k ≡ ports (s .args .t .now) = omega (arith, s .pre .0 .laid .ported, c .if1 .left, l .inv .0) in
+    λ bytes. swept-all (s .args .t .now) (s .args .p) (s .args .numbers .now) (ports (s .args .t .now)) (l .numbers) (subst (λ k. Swept (s .args .t .now) (s .args .p) k (s .args .numbers .now) (l .numbers)) all (l .inv .2)) bytes
 
 pub unmake-all-spec : {M : Type 1} → statement M
 unmake-all-spec =

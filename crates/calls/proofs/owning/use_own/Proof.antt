@@ -63,14 +63,14 @@ cast-k c = search needs
 
 -- src/owning.rt:61:13
 sub-k : tie.Need-sub-k
-sub-k c = 
+sub-k c =
     let s = c .before .before .before .before .before .before .before .before in
     let n = s .args .numbers .now in
     Laws.own-some (s .args .t .now) n (s .args .p) (callOf (s .args .f)) (sym (c .before .before .own .ensures) ∙ not-false _ (c .before .if1 .left))
 
 -- src/owning.rt:62:35
 add-port-row : tie.Need-add-port-row
-add-port-row c = 
+add-port-row c =
     let s = c .before .before .before .before .before .before .before .before .before in
     let t = s .args .t .now in
     let a = accepted t (s .pre .0 .accepted) in
@@ -79,7 +79,7 @@ add-port-row c =
 
 -- src/owning.rt:62:9
 port-row-requires : tie.Need-port-row-requires
-port-row-requires c κs = 
+port-row-requires c κs =
     let s = c .before .before .before .before .before .before .before .before .before in
     let t = s .args .t .now in
     let n = s .args .numbers .now in
@@ -95,7 +95,7 @@ port-row-requires c κs =
 
 -- src/owning.rt:63:5
 serve-requires : tie.Need-serve-requires
-serve-requires c κs = 
+serve-requires c κs =
     let s = c .before .before .before .before .before .before .before .before .before .before .before .before in
     let t = s .args .t .now in
     let n = s .args .numbers .now in
@@ -117,7 +117,7 @@ same-length-3 c = search needs
 
 -- src/owning.rt:44:1
 returns-2 : tie.Need-returns-2
-returns-2 c = 
+returns-2 c =
     let s = c .before .before .before .before .before .before .before .before .before .before .before .before .before .before .before .before .before in
     let t = s .args .t .now in
     let n = s .args .numbers .now in
@@ -132,15 +132,15 @@ returns-2 c =
     let r = Shown.rowOf (c .before .before .before .before .before .before .before .port-row .result) in
     let shows = ap Shown.rowOf (c .before .before .before .before .before .before .before .port-row .ensures ∙ ap (λ w. Shown.decoded (rowAt t (w + k))) (h .laid .windowed)) ∙ Laws.row-shown t (accepted t (h .accepted)) k there in
     λ modes clock.
-      let st = shown t clock modes n b in
-      let served = serve (s .args .time) (row t k) e f (port st k) in
-      let same : serve (s .args .time) r e f (portAt n b k) ≡ served =
-        ap₂ (λ x q. serve (s .args .time) x e f q) shows (sym (Laws.shown-port t clock modes n b k there))
-      in
-      subst (λ x. Does st x p (c .before .before .before .before .serve .result) (shown t clock modes (c .before .before .before .before .serve .last .0) (c .before .before .before .before .serve .last .1 .0)))
-      (sym (Laws.use-served t (s .args .time) st p e f (Laws.own-shown t clock modes n b p f ∙ owns)))
-      (Laws.serves-does t clock modes n b (c .before .before .before .before .serve .last .0) (c .before .before .before .before .serve .last .1 .0) k p (c .before .before .before .before .serve .result) served there
-      (subst (Serves n b (c .before .before .before .before .serve .last .0) (c .before .before .before .before .serve .last .1 .0) k p (c .before .before .before .before .serve .result)) same (c .before .before .before .before .serve .ensures)))
+    let st = shown t clock modes n b in
+    let served = serve (s .args .time) (row t k) e f (port st k) in
+    let same : serve (s .args .time) r e f (portAt n b k) ≡ served =
+    ap₂ (λ x q. serve (s .args .time) x e f q) shows (sym (Laws.shown-port t clock modes n b k there))
+    in
+    subst (λ x. Does st x p (c .before .before .before .before .serve .result) (shown t clock modes (c .before .before .before .before .serve .last .0) (c .before .before .before .before .serve .last .1 .0)))
+    (sym (Laws.use-served t (s .args .time) st p e f (Laws.own-shown t clock modes n b p f ∙ owns)))
+    (Laws.serves-does t clock modes n b (c .before .before .before .before .serve .last .0) (c .before .before .before .before .serve .last .1 .0) k p (c .before .before .before .before .serve .result) served there
+    (subst (Serves n b (c .before .before .before .before .serve .last .0) (c .before .before .before .before .serve .last .1 .0) k p (c .before .before .before .before .serve .result)) same (c .before .before .before .before .serve .ensures)))
 
 pub use-own-spec : {M : Type 1} → statement M
 use-own-spec =
