@@ -1,5 +1,5 @@
 -- `moves::deliver` meets its contract. The loop's invariant: what is left to deliver, from the ports as they are, is what was to deliver at entry. Assumes nothing.
-use Prim.Native.Nat.{ℕ, _-_, _≤_, _<_}
+use Prim.Native.Nat.{ℕ, _-_, _<_}
 use mathlib.Core.Path.{_≡_, refl, sym, _∙_, ap}
 use mathlib.Core.List.{List}
 use native.Mathlib.Nat.{sub-zero}
@@ -11,13 +11,9 @@ use Rattle.model.specs.State.{Clock}
 use Rattle.model.specs.Services.{delivered}
 use Rattle.stores.specs.Ring.{written}
 use Rattle.services.specs.Did.{Held, shown}
-use Rattle.moves.proofs.Laws.{few-records, first-channel, its-record, few-destinations, held-on, turn}
+use Rattle.moves.proofs.Channels.{few-records, first-channel, its-record, few-destinations, held-on, turn}
 use Rattle.moves.proofs.deliver.Statement.{statement}
 use Rattle.moves.proofs.deliver.Tie as tie
-use Rattle.moves.proofs.deliver.Reads as reads
-use Rattle.moves.proofs.deliver.Lts as lts
-use Rattle.moves.proofs.hand_on.Reads as hand-on-reads
-use Rattle.tables.proofs.destination_count.Reads as destination-count-reads
 
 abbrev Inv-loop : tie.InvT-loop
 Inv-loop t lay numbers₀ bytes₀ time c l n j₀ numbers bytes j =
@@ -30,25 +26,21 @@ Inv-loop t lay numbers₀ bytes₀ time c l n j₀ numbers bytes j =
 abbrev μ-loop : tie.MeasureT-loop
 μ-loop t lay numbers₀ bytes₀ time c l n j₀ numbers bytes j = n - j
 
--- src/lib.rt:74:42
 add-destination-count : tie.Need-add-destination-count Inv-loop μ-loop
 add-destination-count c =
     let a = c .before .before .before .before .args in
-    omega (arith, few-records (a .t .now) (a .lay) (a .numbers .now) (a .bytes .now) (c .before .before .before .before .pre .0) (a .c) (c .before .before .before .before .pre .1 .0))
+    omega (arith, few-records (c .before .before .before .before .pre .0) (a .c) (c .before .before .before .before .pre .1 .0))
 
--- src/lib.rt:74:13
 destination-count-requires : tie.Need-destination-count-requires Inv-loop μ-loop
 destination-count-requires c κs =
     let a = c .before .before .before .before .args in
-    (first-channel (a .t .now) (a .lay) (a .numbers .now) (a .bytes .now) (c .before .before .before .before .pre .0) (a .c) (c .before .before .before .before .pre .1 .0), its-record (a .t .now) (a .lay) (a .numbers .now) (a .bytes .now) (c .before .before .before .before .pre .0) (a .c) (c .before .before .before .before .pre .1 .0))
+    (first-channel (c .before .before .before .before .pre .0) (a .c) (c .before .before .before .before .pre .1 .0), its-record (c .before .before .before .before .pre .0) (a .c) (c .before .before .before .before .pre .1 .0))
 
--- src/lib.rt:74:13
 cast-n : tie.Need-cast-n Inv-loop μ-loop
 cast-n c =
     let a = c .before .before .before .before .before .args in
-    omega (arith, c .destination-count .ensures, few-destinations (a .t .now) (a .lay) (a .numbers .now) (a .bytes .now) (c .before .before .before .before .before .pre .0) (a .c) (c .before .before .before .before .before .pre .1 .0))
+    omega (arith, c .destination-count .ensures, few-destinations (c .before .before .before .before .before .pre .0) (a .c) (c .before .before .before .before .before .pre .1 .0))
 
--- src/lib.rt:76:5
 loop-holds : tie.Need-loop-holds Inv-loop μ-loop
 loop-holds c =
     let a = c .before .before .before .before .before .args in (
@@ -59,21 +51,17 @@ loop-holds c =
       λ clock modes. ap (λ i. delivered (a .t .now) (λ k. a .time) (a .c) (written (a .l)) i 0 (shown (a .t .now) clock modes (a .numbers .now) (a .bytes .now))) (sub-zero (c .destination-count .result)),
     )
 
--- src/lib.rt:77:9
 hand-on-requires : tie.Need-hand-on-requires Inv-loop μ-loop
 hand-on-requires c κs =
     let l = c .before .before .before .loop in
     (l .inv .1, ((c .before .before .before .before .before .before .before .before .before .pre .1 .0, omega (arith, l .inv .0, c .before .before .loop-test .taken)), c .before .before .before .before .before .before .before .before .before .pre .1 .1))
 
--- src/lib.rt:78:13
 add-j : tie.Need-add-j Inv-loop μ-loop
 add-j c = search needs
 
--- src/lib.rt:76:5
 loop-less : tie.Need-loop-less Inv-loop μ-loop
 loop-less c = search needs
 
--- src/lib.rt:76:5
 loop-again : tie.Need-loop-again Inv-loop μ-loop
 loop-again c =
     let l = c .before .before .before .before .before .before .before .before .loop in
@@ -83,21 +71,18 @@ loop-again c =
     let few : l .j < destinations (a .t .now) (a .c) = omega (arith, l .inv .0, more) in
     let put = c .before .before .before .before .hand-on in (
       l .inv .0,
-      held-on (a .t .now) (a .lay) (l .numbers) (l .bytes) (l .inv .1) (a .c) (c .before .before .before .before .before .before .before .before .before .before .before .before .before .before .pre .1 .0) (l .j) few (a .time) (c .before .before .before .before .before .before .before .before .before .before .before .before .before .before .pre .1 .1) (put .ensures) (put .kept .1 .1 .0) (put .kept .1 .1 .1 .0),
+      held-on (l .inv .1) (a .c) (c .before .before .before .before .before .before .before .before .before .before .before .before .before .before .pre .1 .0) (l .j) few (a .time) (c .before .before .before .before .before .before .before .before .before .before .before .before .before .before .pre .1 .1) (put .ensures) (put .kept .1 .1 .0) (put .kept .1 .1 .1 .0),
       put .kept .1 .1 .0 ∙ l .inv .2,
       put .kept .1 .1 .1 .0 ∙ l .inv .3,
-      λ clock modes. turn (a .t .now) (a .lay) (l .numbers) (l .bytes) (l .inv .1) (a .c) (c .before .before .before .before .before .before .before .before .before .before .before .before .before .before .pre .1 .0) (l .j) few (a .time) (written (a .l)) (put .ensures) n more clock modes ∙ l .inv .4 clock modes,
+      λ clock modes. turn (l .inv .1) (a .c) (c .before .before .before .before .before .before .before .before .before .before .before .before .before .before .pre .1 .0) (l .j) few (a .time) (written (a .l)) (put .ensures) n more clock modes ∙ l .inv .4 clock modes,
     )
 
--- src/lib.rt:60:1
 same-length : tie.Need-same-length Inv-loop μ-loop
 same-length c = search needs
 
--- src/lib.rt:60:1
 same-length-2 : tie.Need-same-length-2 Inv-loop μ-loop
 same-length-2 c = search needs
 
--- src/lib.rt:60:1
 returns : tie.Need-returns Inv-loop μ-loop
 returns c = λ clock modes.
     let l = c .before .loop in

@@ -1,65 +1,52 @@
 -- `moves::hand_on` meets its contract: the row that is read is the destination's own. Assumes nothing.
 use native.Mathlib.Omega.{arith}
 use Rattle.stores.specs.Ring.{written}
-use Rattle.moves.proofs.Laws.{few-records, first-channel, its-record, few-destinations, its-row, destination-fits, handed}
+use Rattle.moves.proofs.Channels.{few-records, first-channel, its-record, few-destinations, its-row, destination-fits, handed}
 use borrow.Author.Needs.{needs}
 use Rattle.moves.proofs.hand_on.Statement.{statement}
 use Rattle.moves.proofs.hand_on.Tie as tie
-use Rattle.moves.proofs.hand_on.Reads as reads
-use Rattle.moves.proofs.hand_on.Lts as lts
-use Rattle.moves.proofs.arrive.Reads as arrive-reads
-use Rattle.tables.proofs.destination_port.Reads as destination-port-reads
-use Rattle.tables.proofs.port_row.Reads as port-row-reads
 
--- src/lib.rt:54:41
 add-destination-port : tie.Need-add-destination-port
 add-destination-port c =
     let a = c .before .before .before .before .args in
-    omega (arith, few-records (a .t .now) (a .lay) (a .numbers .now) (a .bytes .now) (c .before .before .before .before .pre .0) (a .c) (c .before .before .before .before .pre .1 .0 .0))
+    omega (arith, few-records (c .before .before .before .before .pre .0) (a .c) (c .before .before .before .before .pre .1 .0 .0))
 
--- src/lib.rt:54:9
 destination-port-requires : tie.Need-destination-port-requires
 destination-port-requires c κs =
     let a = c .before .before .before .before .args in
     let held = c .before .before .before .before .pre .0 in
     let there = c .before .before .before .before .pre .1 .0 .0 in (
-      first-channel (a .t .now) (a .lay) (a .numbers .now) (a .bytes .now) held (a .c) there,
-      (its-record (a .t .now) (a .lay) (a .numbers .now) (a .bytes .now) held (a .c) there, omega (arith, c .before .before .before .before .pre .1 .0 .1, few-destinations (a .t .now) (a .lay) (a .numbers .now) (a .bytes .now) held (a .c) there)),
+      first-channel held (a .c) there,
+      (its-record held (a .c) there, omega (arith, c .before .before .before .before .pre .1 .0 .1, few-destinations held (a .c) there)),
     )
 
--- src/lib.rt:55:35
 add-port-row : tie.Need-add-port-row
 add-port-row c =
     let a = c .before .before .before .before .before .before .args in
-    omega (arith, its-row (a .t .now) (a .lay) (a .numbers .now) (a .bytes .now) (c .before .before .before .before .before .before .pre .0) (a .c) (c .before .before .before .before .before .before .pre .1 .0 .0) (a .j) (c .before .before .before .before .before .before .pre .1 .0 .1) (c .before .destination-port .ensures), c .before .before .before .before .before .before .good .0)
+    omega (arith, its-row (c .before .before .before .before .before .before .pre .0) (a .c) (c .before .before .before .before .before .before .pre .1 .0 .0) (a .j) (c .before .before .before .before .before .before .pre .1 .0 .1) (c .before .destination-port .ensures), c .before .before .before .before .before .before .good .0)
 
--- src/lib.rt:55:9
 port-row-requires : tie.Need-port-row-requires
 port-row-requires c κs =
     let a = c .before .before .before .before .before .before .args in
-    its-row (a .t .now) (a .lay) (a .numbers .now) (a .bytes .now) (c .before .before .before .before .before .before .pre .0) (a .c) (c .before .before .before .before .before .before .pre .1 .0 .0) (a .j) (c .before .before .before .before .before .before .pre .1 .0 .1) (c .before .destination-port .ensures)
+    its-row (c .before .before .before .before .before .before .pre .0) (a .c) (c .before .before .before .before .before .before .pre .1 .0 .0) (a .j) (c .before .before .before .before .before .before .pre .1 .0 .1) (c .before .destination-port .ensures)
 
--- src/lib.rt:56:5
 arrive-requires : tie.Need-arrive-requires
 arrive-requires c κs =
     let a = c .before .before .before .before .before .before .before .before .before .args in (
-      destination-fits (a .t .now) (a .lay) (a .numbers .now) (a .bytes .now) (c .before .before .before .before .before .before .before .before .before .pre .0) (a .c) (c .before .before .before .before .before .before .before .before .before .pre .1 .0 .0) (a .j) (c .before .before .before .before .before .before .before .before .before .pre .1 .0 .1) (c .before .before .before .before .destination-port .ensures) (c .before .before .port-row .ensures),
+      destination-fits (c .before .before .before .before .before .before .before .before .before .pre .0) (a .c) (c .before .before .before .before .before .before .before .before .before .pre .1 .0 .0) (a .j) (c .before .before .before .before .before .before .before .before .before .pre .1 .0 .1) (c .before .before .before .before .destination-port .ensures) (c .before .before .port-row .ensures),
       c .before .before .before .before .before .before .before .before .before .pre .1 .1 .short,
     )
 
--- src/lib.rt:39:1
 same-length : tie.Need-same-length
 same-length c = search needs
 
--- src/lib.rt:39:1
 same-length-2 : tie.Need-same-length-2
 same-length-2 c = search needs
 
--- src/lib.rt:39:1
 returns : tie.Need-returns
 returns c =
     let a = c .before .before .before .before .before .before .before .before .before .before .before .before .before .before .args in
-    handed (a .t .now) (a .lay) (a .numbers .now) (a .bytes .now) (c .before .before .before .before .before .before .before .before .before .before .before .before .before .before .pre .0) (a .c) (c .before .before .before .before .before .before .before .before .before .before .before .before .before .before .pre .1 .0 .0) (a .j) (c .before .before .before .before .before .before .before .before .before .before .before .before .before .before .pre .1 .0 .1) (a .time) (written (a .l)) (c .before .before .before .before .before .before .before .before .before .destination-port .ensures) (c .before .before .before .before .before .before .before .port-row .ensures) (c .before .before .before .before .arrive .ensures)
+    handed (c .before .before .before .before .before .before .before .before .before .before .before .before .before .before .pre .0) (a .c) (c .before .before .before .before .before .before .before .before .before .before .before .before .before .before .pre .1 .0 .0) (a .j) (c .before .before .before .before .before .before .before .before .before .before .before .before .before .before .pre .1 .0 .1) (a .time) (written (a .l)) (c .before .before .before .before .before .before .before .before .before .destination-port .ensures) (c .before .before .before .before .before .before .before .port-row .ensures) (c .before .before .before .before .arrive .ensures)
 
 pub hand-on-spec : {M : Type 1} → statement M
 hand-on-spec =

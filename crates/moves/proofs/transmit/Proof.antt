@@ -3,98 +3,76 @@ use mathlib.Core.Path.{_≡_}
 use native.Mathlib.Omega.{arith}
 use lib.ListN.{getD}
 use Rattle.ports.specs.Held.{rowOf}
-use Rattle.moves.proofs.Laws.{few-records, first-channel, its-record, few-channels, source-lent, source-sized, source-held, source-carried, moved, unmoved}
+use Rattle.moves.proofs.Channels.{few-records, first-channel, its-record, few-channels, source-lent, source-sized, source-held, source-carried, moved, unmoved}
 use borrow.Author.Needs.{needs}
 use Rattle.moves.proofs.transmit.Statement.{statement}
 use Rattle.moves.proofs.transmit.Tie as tie
-use Rattle.moves.proofs.transmit.Reads as reads
-use Rattle.moves.proofs.transmit.Lts as lts
-use Rattle.events.proofs.done.Reads as done-reads
-use Rattle.events.proofs.refusal.Reads as refusal-reads
-use Rattle.moves.proofs.deliver.Reads as deliver-reads
-use Rattle.moves.proofs.take_oldest.Reads as take-oldest-reads
-use Rattle.moves.proofs.waiting.Reads as waiting-reads
-use Rattle.tables.proofs.source_port.Reads as source-port-reads
 
--- src/lib.rt:116:21
 cast-doer : tie.Need-cast-doer
 cast-doer c =
     let a = c .before .before .before .args in
-    omega (arith, few-channels (a .t .now) (a .lay) (a .numbers .now) (a .bytes .now) (c .before .before .before .pre .0) (a .c) (c .before .before .before .pre .1))
+    omega (arith, few-channels (c .before .before .before .pre .0) (a .c) (c .before .before .before .pre .1))
 
--- src/lib.rt:116:16
 add-doer : tie.Need-add-doer
 add-doer c =
     let a = c .before .before .before .args in
-    omega (arith, few-channels (a .t .now) (a .lay) (a .numbers .now) (a .bytes .now) (c .before .before .before .pre .0) (a .c) (c .before .before .before .pre .1))
+    omega (arith, few-channels (c .before .before .before .pre .0) (a .c) (c .before .before .before .pre .1))
 
--- src/lib.rt:117:36
 add-source-port : tie.Need-add-source-port
 add-source-port c =
     let a = c .before .before .before .before .args in
-    omega (arith, few-records (a .t .now) (a .lay) (a .numbers .now) (a .bytes .now) (c .before .before .before .before .pre .0) (a .c) (c .before .before .before .before .pre .1))
+    omega (arith, few-records (c .before .before .before .before .pre .0) (a .c) (c .before .before .before .before .pre .1))
 
--- src/lib.rt:117:9
 source-port-requires : tie.Need-source-port-requires
 source-port-requires c κs =
     let a = c .before .before .before .before .args in
-    (first-channel (a .t .now) (a .lay) (a .numbers .now) (a .bytes .now) (c .before .before .before .before .pre .0) (a .c) (c .before .before .before .before .pre .1), its-record (a .t .now) (a .lay) (a .numbers .now) (a .bytes .now) (c .before .before .before .before .pre .0) (a .c) (c .before .before .before .before .pre .1))
+    (first-channel (c .before .before .before .before .pre .0) (a .c) (c .before .before .before .before .pre .1), its-record (c .before .before .before .before .pre .0) (a .c) (c .before .before .before .before .pre .1))
 
--- src/lib.rt:118:8
 waiting-requires : tie.Need-waiting-requires
 waiting-requires c κs =
     let a = c .before .before .before .before .before .before .args in
-    let lent = source-lent (a .t .now) (a .lay) (a .numbers .now) (a .bytes .now) (c .before .before .before .before .before .before .pre .0) (a .c) (c .before .before .before .before .before .before .pre .1) (c .before .source-port .ensures) in
+    let lent = source-lent (c .before .before .before .before .before .before .pre .0) (a .c) (c .before .before .before .before .before .before .pre .1) (c .before .source-port .ensures) in
     (lent .rows, lent .there)
 
--- src/lib.rt:119:9
 refusal-requires : tie.Need-refusal-requires
 refusal-requires c κs = search needs
 
--- src/lib.rt:119:9
 same-length : tie.Need-same-length
 same-length c = search needs
 
--- src/lib.rt:119:9
 returns : tie.Need-returns
 returns c =
     let a = c .before .before .before .before .before .before .before .before .before .args in
     let none : getD (rowOf (a .numbers .now) (c .before .before .before .before .source-port .result)) 4 0 ≡ 0 = omega (arith, c .before .before .waiting .ensures, c .before .if1 .taken) in
-    unmoved (a .t .now) (a .lay) (a .numbers .now) (a .bytes .now) (c .before .before .before .before .before .before .before .before .before .pre .0) (a .c) (c .before .before .before .before .before .before .before .before .before .pre .1) (c .before .before .before .before .source-port .ensures) (a .time) none (c .refusal .ensures)
+    unmoved (c .before .before .before .before .before .before .before .before .before .pre .0) (a .c) (c .before .before .before .before .before .before .before .before .before .pre .1) (c .before .before .before .before .source-port .ensures) (a .time) none (c .refusal .ensures)
 
--- src/lib.rt:121:9
 take-oldest-requires : tie.Need-take-oldest-requires
 take-oldest-requires c κs =
     let a = c .before .before .before .before .before .before .before .before .before .before .args in
     let found = c .before .before .before .before .before .source-port .ensures in
-    (source-lent (a .t .now) (a .lay) (a .numbers .now) (a .bytes .now) (c .before .before .before .before .before .before .before .before .before .before .pre .0) (a .c) (c .before .before .before .before .before .before .before .before .before .before .pre .1) found, (source-sized (a .t .now) (a .lay) (a .numbers .now) (a .bytes .now) (c .before .before .before .before .before .before .before .before .before .before .pre .0) (a .c) (c .before .before .before .before .before .before .before .before .before .before .pre .1) found, omega (arith, c .before .before .before .waiting .ensures, c .before .before .if1 .left)))
+    (source-lent (c .before .before .before .before .before .before .before .before .before .before .pre .0) (a .c) (c .before .before .before .before .before .before .before .before .before .before .pre .1) found, (source-sized (c .before .before .before .before .before .before .before .before .before .before .pre .0) (a .c) (c .before .before .before .before .before .before .before .before .before .before .pre .1) found, omega (arith, c .before .before .before .waiting .ensures, c .before .before .if1 .left)))
 
--- src/lib.rt:122:5
 deliver-requires : tie.Need-deliver-requires
 deliver-requires c κs =
     let a = c .before .before .before .before .before .before .before .before .before .before .before .before .before .before .before .args in
     let found = c .before .before .before .before .before .before .before .before .before .before .source-port .ensures in
     let gone = c .before .before .before .before .take-oldest .ensures in
-    (source-held (a .t .now) (a .lay) (a .numbers .now) (a .bytes .now) (c .before .before .before .before .before .before .before .before .before .before .before .before .before .before .before .pre .0) (a .c) (c .before .before .before .before .before .before .before .before .before .before .before .before .before .before .before .pre .1) found gone (c .before .before .before .before .take-oldest .kept .0), (c .before .before .before .before .before .before .before .before .before .before .before .before .before .before .before .pre .1, source-carried (a .t .now) (a .lay) (a .numbers .now) (a .bytes .now) (c .before .before .before .before .before .before .before .before .before .before .before .before .before .before .before .pre .0) (a .c) (c .before .before .before .before .before .before .before .before .before .before .before .before .before .before .before .pre .1) found gone))
+    (source-held (c .before .before .before .before .before .before .before .before .before .before .before .before .before .before .before .pre .0) (a .c) (c .before .before .before .before .before .before .before .before .before .before .before .before .before .before .before .pre .1) found gone (c .before .before .before .before .take-oldest .kept .0), (c .before .before .before .before .before .before .before .before .before .before .before .before .before .before .before .pre .1, source-carried (c .before .before .before .before .before .before .before .before .before .before .before .before .before .before .before .pre .0) (a .c) (c .before .before .before .before .before .before .before .before .before .before .before .before .before .before .before .pre .1) found gone))
 
--- src/lib.rt:123:5
 done-requires : tie.Need-done-requires
 done-requires c κs = search needs
 
--- src/lib.rt:104:1
 same-length-2 : tie.Need-same-length-2
 same-length-2 c = search needs
 
--- src/lib.rt:104:1
 same-length-3 : tie.Need-same-length-3
 same-length-3 c = search needs
 
--- src/lib.rt:104:1
 returns-2 : tie.Need-returns-2
 returns-2 c =
     let a = c .before .before .before .before .before .before .before .before .before .before .before .before .before .before .before .before .before .before .before .before .before .args in
     let last = c .before .before .before .before .before .deliver .last in
-    moved (a .t .now) (a .lay) (a .numbers .now) (a .bytes .now) (c .before .before .before .before .before .before .before .before .before .before .before .before .before .before .before .before .before .before .before .before .before .pre .0) (a .c) (c .before .before .before .before .before .before .before .before .before .before .before .before .before .before .before .before .before .before .before .before .before .pre .1) (c .before .before .before .before .before .before .before .before .before .before .before .before .before .before .before .before .source-port .ensures) (c .before .before .before .before .before .before .before .before .before .before .take-oldest .ensures) (a .time) (last .1 .1 .0) (last .1 .1 .1 .0) (c .before .before .before .before .before .deliver .ensures) (c .done .ensures)
+    moved (c .before .before .before .before .before .before .before .before .before .before .before .before .before .before .before .before .before .before .before .before .before .pre .0) (a .c) (c .before .before .before .before .before .before .before .before .before .before .before .before .before .before .before .before .before .before .before .before .before .pre .1) (c .before .before .before .before .before .before .before .before .before .before .before .before .before .before .before .before .source-port .ensures) (c .before .before .before .before .before .before .before .before .before .before .take-oldest .ensures) (a .time) (last .1 .1 .0) (last .1 .1 .1 .0) (c .before .before .before .before .before .deliver .ensures) (c .done .ensures)
 
 pub transmit-spec : {M : Type 1} → statement M
 transmit-spec =
