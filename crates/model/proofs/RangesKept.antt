@@ -223,7 +223,7 @@ module _ (t : Tables) (good : Accepted t) (s : State) (h : Ranged t s) where
       }
 
 -- a message that fits arrives in a port in range
-arrived-ranged : (time : ℕ) (r : Row) (m : Message) (q : Port) → fits r m ≡ true → PortRanged r q → PortRanged r (arrived time r m q)
+pub arrived-ranged : (time : ℕ) (r : Row) (m : Message) (q : Port) → fits r m ≡ true → PortRanged r q → PortRanged r (arrived time r m q)
 unfolding arrived
 arrived-ranged time r m q e h =
     by-test (PortRanged r) (isCreated q)

@@ -1,0 +1,2 @@
+-- What a channel's move does to the lent arrays.
+pub mod Moved

@@ -1,0 +1,124 @@
+// 14, TRANSMIT: the oldest message leaves a channel's source, and each destination that is created gets it.
+// "Otherwise it is lost": nothing here waits for a destination, and no answer tells what became of a message.
+ghost use mathlib.Core.Path.{_≡_};
+ghost use Prim.Native.Nat.{_<_, _≤_};
+ghost use lib.ListN.{length, getD};
+ghost use Rattle.model.specs.Tables.{row, destinations, destinationPort};
+ghost use Rattle.tables.specs.Shown.{rowOf};
+ghost use Rattle.stores.specs.Ring.{written, Sized};
+ghost use Rattle.ports.specs.Held;
+ghost use Rattle.ports.specs.Held.{storeAt};
+ghost use Rattle.services.specs.Served.{Lent, Fits};
+ghost use Rattle.services.specs.Did.{Held};
+ghost use Rattle.moves.specs.Moved.{Arrived, Left, Carried, Delivered, Moved};
+use events::Answer;
+use services::Layout;
+use stores::Letter;
+use tables::PortRow;
+
+// One destination: nothing if it is not created; else it is stored or lost, and a sample has arrived now.
+fn arrive(numbers: &mut [u32], bytes: &mut [u8], time: u32, k: usize, row: PortRow, l: Letter)
+    requires { ⌜ Fits (now numbers) (now bytes) k row ⌝ }
+    requires { ⌜ l .size ≤ 64 ⌝ }
+    ensures { λ _. ⌜ Arrived time (rowOf row) (written l) k (now (numbers .entry)) (now (bytes .entry)) (now (numbers .exit)) (now (bytes .exit)) ⌝ }
+{
+    if ports::number(numbers, k, ports::CREATED) == 0 {
+        return;
+    }
+    services::store(numbers, bytes, k, row, l);
+    let transfer = row.transfer;
+    // the arrival time of a queuing port is never touched
+    if tables::mode(transfer) == 1 {
+        return;
+    }
+    ports::set_number(numbers, k, ports::ARRIVAL, time);
+}
+
+// Destination j of channel c, with its row from the tables.
+fn hand_on(
+    t: &[u8],
+    lay: Layout,
+    numbers: &mut [u32],
+    bytes: &mut [u8],
+    time: u32,
+    c: usize,
+    j: usize,
+    l: Letter,
+)
+    requires { ⌜ Held (now t) lay (now numbers) (now bytes) ⌝ }
+    requires { ⌜ (c < lay .channels) × (j < destinations (now t) c) ⌝ }
+    requires { ⌜ Carried (now t) c l ⌝ }
+    ensures { λ _. ⌜ Arrived time (row (now (t .entry)) (destinationPort (now (t .entry)) c j)) (written l) (destinationPort (now (t .entry)) c j) (now (numbers .entry)) (now (bytes .entry)) (now (numbers .exit)) (now (bytes .exit)) ⌝ }
+{
+    let k = tables::destination_port(t, lay.windows + lay.ports, c, j);
+    let row = tables::port_row(t, lay.windows + k);
+    arrive(numbers, bytes, time, k, row, l);
+}
+
+// The message handed to each destination in its turn.
+fn deliver(
+    t: &[u8],
+    lay: Layout,
+    numbers: &mut [u32],
+    bytes: &mut [u8],
+    time: u32,
+    c: usize,
+    l: Letter,
+)
+    requires { ⌜ Held (now t) lay (now numbers) (now bytes) ⌝ }
+    requires { ⌜ c < lay .channels ⌝ }
+    requires { ⌜ Carried (now t) c l ⌝ }
+    ensures { λ _. ⌜ Delivered (now (t .entry)) time c (written l) (now (numbers .entry)) (now (bytes .entry)) (now (numbers .exit)) (now (bytes .exit)) ⌝ }
+{
+    let n = tables::destination_count(t, lay.windows + lay.ports, c) as usize;
+    let mut j: usize = 0;
+    while j < n {
+        hand_on(t, lay, numbers, bytes, time, c, j, l);
+        j = j + 1;
+    }
+}
+
+// The oldest message leaves the store of port k. Its bytes stay in their slot, which no longer counts.
+fn take_oldest(numbers: &mut [u32], bytes: &[u8], k: usize) -> Letter
+    requires { ⌜ Lent (now numbers) (now bytes) k ⌝ }
+    requires { ⌜ Sized (storeAt (now numbers) (now bytes) k) × (0 < getD (Held.rowOf (now numbers) k) 4 0) ⌝ }
+    ensures { λ l. ⌜ Left (now (numbers .entry)) (now (bytes .entry)) (now (numbers .exit)) k l ⌝ }
+{
+    let st = ports::take_store(numbers, bytes, k);
+    let l = stores::oldest(st);
+    let rest = stores::drop_oldest(st);
+    ports::set_number(numbers, k, ports::OLDEST, rest.oldest);
+    ports::set_number(numbers, k, ports::COUNT, rest.count);
+    l
+}
+
+// How many messages port k has for its channel to move: all that it holds. What the destinations are like holds none of them back.
+fn waiting(numbers: &[u32], k: usize) -> u32
+    requires { ⌜ (length (now numbers) ≡ 832) × (k < 64) ⌝ }
+    ensures { λ r. ⌜ r ≡ getD (Held.rowOf (now (numbers .entry)) k) 4 0 ⌝ }
+{
+    ports::number(numbers, k, ports::COUNT)
+}
+
+// Channel c's move. The doer is the channel, 64 plus its number; the answer is 1 if the source is empty, and else 0, whoever got the message.
+pub fn transmit(
+    t: &[u8],
+    lay: Layout,
+    numbers: &mut [u32],
+    bytes: &mut [u8],
+    time: u32,
+    c: usize,
+) -> Answer
+    requires { ⌜ Held (now t) lay (now numbers) (now bytes) ⌝ }
+    requires { ⌜ c < lay .channels ⌝ }
+    ensures { λ r. ⌜ Moved (now (t .entry)) time c r (now (numbers .entry)) (now (bytes .entry)) (now (numbers .exit)) (now (bytes .exit)) ⌝ }
+{
+    let doer = 64 + c as u8;
+    let k = tables::source_port(t, lay.windows + lay.ports, c);
+    if waiting(numbers, k) == 0 {
+        return events::refusal(1, doer);
+    }
+    let l = take_oldest(numbers, bytes, k);
+    deliver(t, lay, numbers, bytes, time, c, l);
+    events::done(doer)
+}
