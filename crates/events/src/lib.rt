@@ -9,6 +9,7 @@ pub use answers::lay_answer;
 pub use answers::refusal;
 pub use answers::told_id;
 pub use answers::told_number;
+pub use clock::Clock;
 pub use clock::age;
 pub use clock::later;
 pub use codes::Asked;

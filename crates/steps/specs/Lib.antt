@@ -1,0 +1,2 @@
+-- One event over the lent arrays, and a list of them.
+pub mod Stepped

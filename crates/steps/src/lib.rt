@@ -1,0 +1,2 @@
+// One event over the clock, the modes and the lent arrays, and a list of events.
+mod turns;
