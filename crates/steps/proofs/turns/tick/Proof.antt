@@ -1,3 +1,21 @@
+-- `steps::turns::tick` meets its contract: the next window, or the first. Assumes nothing.
+use Prim.Native.Nat.{suc, _+_, _≤_, _<_}
+use mathlib.Core.Path.{_≡_, refl, sym, _∙_, ap, subst}
+use native.Mathlib.Omega.{arith}
+use native.Mathlib.Numerals.{add-one}
+use lib.ListN.{length}
+use borrow.Author.Needs.{needs}
+use Rattle.model.specs.Tables.{windows, windowPartition, windowLength, records}
+use Rattle.model.specs.State.{wrap}
+use Rattle.model.specs.State as model
+use Rattle.model.specs.Services.{refuse}
+use Rattle.model.specs.Events as events
+use Rattle.model.proofs.Accepted.{accepted}
+use Rattle.events.specs.Shown.{callOf, refusedAs}
+use Rattle.services.specs.Did.{shown, Does}
+use Rattle.calls.proofs.Laws.{refused-does}
+use Rattle.steps.specs.Stepped.{clockOf}
+use Rattle.steps.proofs.Laws
 use borrow.Author.Needs.{needs}
 use Rattle.steps.proofs.turns.tick.Statement.{statement}
 use Rattle.steps.proofs.turns.tick.Tie as tie
@@ -8,7 +26,12 @@ use Rattle.tables.proofs.window_length.Reads as window-length-reads
 
 -- src/turns.rt:38:42
 window-length-requires : tie.Need-window-length-requires
-window-length-requires c κs = ?
+window-length-requires c κs =
+    let s = c .before in
+    let t = s .args .t .now in
+    let k = s .args .clock in
+    let a = accepted t (s .pre .0) in
+    omega (arith, s .pre .2, a .portsAfter, a .channelsAfter)
 
 -- src/turns.rt:38:9
 later-requires : tie.Need-later-requires
@@ -24,11 +47,23 @@ add-t9 c = search needs
 
 -- src/turns.rt:40:9
 returns : tie.Need-returns
-returns c = ?
+returns c =
+    let s = c .before .before .before .before .before in
+    let t = s .args .t .now in
+    let k = s .args .clock in
+    let time = c .before .before .later .ensures ∙ ap (λ x. wrap (k .time + x)) (c .before .before .before .window-length .ensures) in
+    let next : suc (k .window) < windows t = omega (arith, s .pre .1 .windowed, c .if1 .taken) in
+    rw (time, add-one (k .window)) (sym (Laws.tick-next t (clockOf k) next))
 
 -- src/turns.rt:33:1
 returns-2 : tie.Need-returns-2
-returns-2 c = ?
+returns-2 c =
+    let s = c .before .before .before .before .before in
+    let t = s .args .t .now in
+    let k = s .args .clock in
+    let time = c .before .before .later .ensures ∙ ap (λ x. wrap (k .time + x)) (c .before .before .before .window-length .ensures) in
+    let last : windows t ≤ suc (k .window) = omega (arith, s .pre .1 .windowed, c .if1 .left) in
+    rw time (sym (Laws.tick-first t (clockOf k) last))
 
 pub tick-spec : {M : Type 1} → statement M
 tick-spec =

@@ -1,3 +1,21 @@
+-- `steps::turns::turn` meets its contract, by what the event asks. Assumes nothing.
+use Prim.Native.Nat.{suc, _+_, _≤_, _<_}
+use mathlib.Core.Path.{_≡_, refl, sym, _∙_, ap, subst}
+use native.Mathlib.Omega.{arith}
+use native.Mathlib.Numerals.{add-one}
+use lib.ListN.{length}
+use borrow.Author.Needs.{needs}
+use Rattle.model.specs.Tables.{windows, windowPartition, windowLength, records}
+use Rattle.model.specs.State.{wrap}
+use Rattle.model.specs.State as model
+use Rattle.model.specs.Services.{refuse}
+use Rattle.model.specs.Events as events
+use Rattle.model.proofs.Accepted.{accepted}
+use Rattle.events.specs.Shown.{askedOf}
+use Rattle.services.specs.Did.{shown, Does}
+use Rattle.calls.proofs.Laws.{refused-does}
+use Rattle.steps.specs.Stepped.{clockOf}
+use Rattle.steps.proofs.Laws
 use borrow.Author.Needs.{needs}
 use Rattle.steps.proofs.turns.turn.Statement.{statement}
 use Rattle.steps.proofs.turns.turn.Tie as tie
@@ -20,7 +38,9 @@ enum-told c = search needs
 
 -- src/turns.rt:113:17
 tick-requires : tie.Need-tick-requires
-tick-requires c κs = search needs
+tick-requires c κs =
+    let h = c .before .before .before .before .before .before .before .before .pre .0 in
+    (h .held .accepted, h .held .laid, h .ranged .inWindow)
 
 -- src/turns.rt:115:25
 told-number-requires : tie.Need-told-number-requires
@@ -32,7 +52,8 @@ enum-known-asked c = search needs
 
 -- src/turns.rt:120:21
 call-turn-requires : tie.Need-call-turn-requires
-call-turn-requires c κs = ?
+call-turn-requires c κs =
+    (c .before .before .before .before .before .before .before .before .before .before .before .before .pre .0, (c .before .before .before .before .before .before .before .before .before .before .before .before .pre .1, sym (c .before .before .before .before .before .before .decode .ensures) ∙ ap askedOf (c .before .before .before .before .asked .given .1)))
 
 -- src/turns.rt:123:21
 enum-known-asked-2 : tie.Need-enum-known-asked-2
@@ -40,7 +61,8 @@ enum-known-asked-2 c = search needs
 
 -- src/turns.rt:124:21
 move-turn-requires : tie.Need-move-turn-requires
-move-turn-requires c κs = ?
+move-turn-requires c κs =
+    (c .before .before .before .before .before .before .before .before .before .before .before .before .pre .0, sym (c .before .before .before .before .before .before .decode .ensures) ∙ ap askedOf (c .before .before .before .before .asked2 .given .1))
 
 -- src/turns.rt:128:21
 enum-told-2 : tie.Need-enum-told-2
@@ -52,7 +74,20 @@ refusal-requires c κs = search needs
 
 -- src/turns.rt:97:1
 returns : tie.Need-returns
-returns c = ?
+returns c =
+    let s = c .before .before .before .before .before .before .before .before .before .before in
+    let t = s .args .t .now in
+    let ms = s .args .modes .now in
+    let n = s .args .numbers .now in
+    let b = s .args .bytes .now in
+    let e = s .args .event .now in
+    let k = s .args .clock in
+    let h = s .pre .0 in
+    let a = accepted t (h .held .accepted) in
+    let st = shown t (clockOf k) ms n b in
+    let at = Laws.at-clock t st e (sym (c .before .before .before .before .decode .ensures) ∙ ap askedOf (c .before .before .enum-told .given .1)) in
+    let does = Laws.schedule-does t (clockOf k) (clockOf (c .before .tick .result)) ms n b (c .told-number .result) (c .before .tick .ensures) (c .told-number .ensures) in
+    record { answered = Laws.act-answers t st e at does; left = Laws.act-leaves t st e at does }
 
 -- src/turns.rt:97:1
 same-length : tie.Need-same-length
@@ -68,7 +103,7 @@ same-length-3 c = search needs
 
 -- src/turns.rt:97:1
 returns-2 : tie.Need-returns-2
-returns-2 c = search needs
+returns-2 c = c .before .before .before .before .before .before .call-turn .ensures
 
 -- src/turns.rt:97:1
 same-length-4 : tie.Need-same-length-4
@@ -84,11 +119,24 @@ same-length-6 c = search needs
 
 -- src/turns.rt:97:1
 returns-3 : tie.Need-returns-3
-returns-3 c = search needs
+returns-3 c = c .before .before .before .before .move-turn .ensures
 
 -- src/turns.rt:97:1
 returns-4 : tie.Need-returns-4
-returns-4 c = ?
+returns-4 c =
+    let s = c .before .before .before .before .before .before .before .before .before in
+    let t = s .args .t .now in
+    let ms = s .args .modes .now in
+    let n = s .args .numbers .now in
+    let b = s .args .bytes .now in
+    let e = s .args .event .now in
+    let k = s .args .clock in
+    let h = s .pre .0 in
+    let a = accepted t (h .held .accepted) in
+    let st = shown t (clockOf k) ms n b in
+    let at = Laws.at-unknown t st e (sym (c .before .before .before .decode .ensures) ∙ ap askedOf (c .before .enum-told2 .given .1)) in
+    let does = refused-does st 255 19 (c .refusal .result) refl (c .refusal .ensures) in
+    record { answered = Laws.act-answers t st e at does; left = Laws.act-leaves t st e at does }
 
 pub turn-spec : {M : Type 1} → statement M
 turn-spec =
