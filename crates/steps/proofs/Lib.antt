@@ -1,1 +1,3 @@
 pub mod Laws
+pub mod OneMore
+pub mod Bytes

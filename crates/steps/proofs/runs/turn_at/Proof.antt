@@ -1,0 +1,121 @@
+-- `steps::runs::turn_at` meets its contract: the turn, and its answer laid in record i. Assumes nothing.
+use Prim.Native.Nat.{_+_, _*_, _-_, _/_, _≤_, _<_}
+use mathlib.Core.Path.{_≡_, refl, sym, _∙_, ap, ap₂, subst}
+use mathlib.Core.List.{_++_}
+use native.Mathlib.Omega.{arith}
+use lib.ListN.{length, take, drop}
+use borrow.Author.Needs.{needs}
+use borrow.Rule.Slice.PartMut.{post-is}
+use Rattle.model.specs.Step.{answer, doer, reply}
+use Rattle.events.specs.Shown.{answerBytes}
+use Rattle.services.specs.Did.{shown}
+use Rattle.steps.specs.Stepped.{clockOf, Answers, RunsTo}
+use Rattle.steps.proofs.Bytes.{bytes-replied}
+use Rattle.steps.proofs.OneMore.{none-yet, one-more}
+use borrow.Author.Needs.{needs}
+use Rattle.steps.proofs.runs.turn_at.Statement.{statement}
+use Rattle.steps.proofs.runs.turn_at.Tie as tie
+use Rattle.steps.proofs.runs.turn_at.Reads as reads
+use Rattle.steps.proofs.runs.turn_at.Lts as lts
+use Rattle.events.proofs.lay_answer.Reads as lay-answer-reads
+use Rattle.steps.proofs.turns.turn.Reads as turn-reads
+
+-- src/runs.rt:28:14
+mul-at : tie.Need-mul-at
+mul-at c = search needs
+
+-- src/runs.rt:29:15
+add-end : tie.Need-add-end
+add-end c = search needs
+
+-- src/runs.rt:30:61
+sub-turn : tie.Need-sub-turn
+sub-turn c = search needs
+
+-- src/runs.rt:30:61
+part-turn-start : tie.Need-part-turn-start
+part-turn-start c = search needs
+
+-- src/runs.rt:30:61
+part-turn-end : tie.Need-part-turn-end
+part-turn-end c = search needs
+
+-- src/runs.rt:30:9
+turn-requires : tie.Need-turn-requires
+turn-requires c κs = search needs
+
+-- src/runs.rt:32:32
+sub-lay-answer : tie.Need-sub-lay-answer
+sub-lay-answer c = search needs
+
+-- src/runs.rt:32:32
+part-lay-answer-start : tie.Need-part-lay-answer-start
+part-lay-answer-start c = search needs
+
+-- src/runs.rt:32:32
+part-lay-answer-end : tie.Need-part-lay-answer-end
+part-lay-answer-end c = search needs
+
+-- src/runs.rt:32:5
+lay-answer-requires : tie.Need-lay-answer-requires
+lay-answer-requires c κs = search needs
+
+-- src/runs.rt:13:1
+same-length : tie.Need-same-length
+same-length c = search needs
+
+-- src/runs.rt:13:1
+same-length-2 : tie.Need-same-length-2
+same-length-2 c = search needs
+
+-- src/runs.rt:13:1
+same-length-3 : tie.Need-same-length-3
+same-length-3 c = search needs
+
+-- src/runs.rt:13:1
+same-length-4 : tie.Need-same-length-4
+same-length-4 c = search needs
+
+-- src/runs.rt:13:1
+returns : tie.Need-returns
+unfolding answer
+returns c =
+    let s = c .before .before .before .before .before .before .before .before .before .before .before .before .before .before .before .before .before .before .before .before .before .before .before in
+    let t = s .args .t .now in
+    let i = s .args .i in
+    let a = s .args .answers .now in
+    let es = s .args .events .now in
+    let st = shown t (clockOf (s .args .clock)) (s .args .modes .now) (s .args .numbers .now) (s .args .bytes .now) in
+    let size : 80 * i + 80 - 80 * i ≡ 80 = omega arith in
+    let done = subst
+    (λ k. Answers t (take k (drop (80 * i) es)) (s .args .clock) (s .args .modes .now) (s .args .numbers .now) (s .args .bytes .now) (c .before .before .before .before .before .before .before .before .before .before .before .before .turn .result .answer) (c .before .before .before .before .before .before .before .before .before .before .before .before .turn .result .clock) (c .before .before .before .before .before .before .before .before .before .before .before .before .turn .last .1 .1 .1 .0) (c .before .before .before .before .before .before .before .before .before .before .before .before .turn .last .1 .1 .1 .1 .0) (c .before .before .before .before .before .before .before .before .before .before .before .before .turn .last .1 .1 .1 .1 .1 .0))
+    size (c .before .before .before .before .before .before .before .before .before .before .before .before .turn .ensures)
+    in
+    let e = take 80 (drop (80 * i) es) in
+    record {
+      answered =
+          ap₂ (λ l r. take (80 * i) a ++ (l ++ r))
+          (c .before .before .before .lay-answer .ensures ∙ ap answerBytes (done .answered) ∙ bytes-replied (doer t st e) (reply t st e))
+          (post-is (80 * i) (80 * i + 80) a (omega arith));
+      left = done .left;
+    }
+
+pub turn-at-spec : {M : Type 1} → statement M
+turn-at-spec =
+    tie.close
+    (tie.spec
+    mul-at
+    add-end
+    sub-turn
+    part-turn-start
+    part-turn-end
+    turn-requires
+    sub-lay-answer
+    part-lay-answer-start
+    part-lay-answer-end
+    lay-answer-requires
+    same-length
+    same-length-2
+    same-length-3
+    same-length-4
+    returns)
