@@ -17,9 +17,12 @@ use Rattle.states.specs.Shown.{indexed, allBytes}
 abbrev pub modesFit : List ℕ → Bool
 modesFit modes = allIn (λ m. leb m normal) modes
 
--- the stored lengths of a port's numbers: count slots from the oldest on
+-- the stored length of the message that is i places behind the oldest, and those of all messages
+abbrev pub lengthFits : ℕ → List ℕ → ℕ → ℕ → Bool
+lengthFits largest numbers oldest i = between shortest largest (getD numbers (5 + (oldest + i) % slots) 0)
+
 abbrev pub lengthsFit : ℕ → List ℕ → ℕ → ℕ → Bool
-lengthsFit largest numbers oldest count = all (λ i. between shortest largest (getD numbers (5 + (oldest + i) % slots) 0)) count 0
+lengthsFit largest numbers oldest count = all (lengthFits largest numbers oldest) count 0
 
 -- a port's numbers: created mark, last validity, oldest slot, count, a message in an uncreated port, stored lengths
 unfoldable pub numbersFit : Row → List ℕ → Bool
@@ -31,8 +34,12 @@ numbersFit r numbers =
     && (eqb (getD numbers 0 0) 1 || eqb (getD numbers 4 0) 0)
     && lengthsFit (r .largest) numbers (getD numbers 3 0) (getD numbers 4 0)
 
+-- port k of the tables, and each of them
+abbrev pub portFits : Tables → List ℕ → ℕ → Bool
+portFits t numbers k = numbersFit (row t k) (rowOf numbers k)
+
 unfoldable pub eachFits : Tables → List ℕ → Bool
-eachFits t numbers = all (λ k. numbersFit (row t k) (rowOf numbers k)) (ports t) 0
+eachFits t numbers = all (portFits t numbers) (ports t) 0
 
 -- r is test 29 of each state with this window, these modes and these port numbers
 abbrev pub Judges : Tables → ℕ → List ℕ → List ℕ → Bool → Type 0

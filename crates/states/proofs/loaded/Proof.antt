@@ -1,3 +1,7 @@
+-- `states::loaded` meets its contract: its literal is the state at load. Assumes nothing.
+use borrow.Author.Needs.{needs}
+use mathlib.Core.Path.{refl}
+use Rattle.states.specs.Shown.{atLoad}
 use Rattle.states.proofs.loaded.Statement.{statement}
 use Rattle.states.proofs.loaded.Tie as tie
 use Rattle.states.proofs.loaded.Reads as reads
@@ -5,7 +9,8 @@ use Rattle.states.proofs.loaded.Lts as lts
 
 -- src/lib.rt:32:1
 returns : tie.Need-returns
-returns c = ?
+unfolding atLoad
+returns c = refl
 
 pub loaded-spec : {M : Type 1} → statement M
 loaded-spec = tie.close (tie.spec returns)

@@ -1,3 +1,6 @@
+-- `states::testing::room` meets its contract, by the case of the row. Assumes nothing.
+use mathlib.Core.Path.{sym}
+use Rattle.states.proofs.Judged.{room-sampling, room-queuing}
 use borrow.Author.Needs.{needs}
 use Rattle.states.proofs.testing.room.Statement.{statement}
 use Rattle.states.proofs.testing.room.Tie as tie
@@ -14,11 +17,11 @@ enum-known-transfer c = search needs
 
 -- src/testing.rt:33:1
 returns : tie.Need-returns
-returns c = ?
+returns c = sym (room-sampling (c .before .before .args .row) (c .enum-told .given .0 .0) (c .enum-told .given .1))
 
 -- src/testing.rt:33:1
 returns-2 : tie.Need-returns-2
-returns-2 c = ?
+returns-2 c = sym (room-queuing (c .before .before .before .args .row) (c .before .transfer .given .0 .0) (c .before .transfer .given .1))
 
 pub room-spec : {M : Type 1} → statement M
 room-spec = tie.close (tie.spec enum-told enum-known-transfer returns returns-2)
