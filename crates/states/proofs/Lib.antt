@@ -1,1 +1,4 @@
 pub mod Judged
+pub mod Laid
+pub mod Laws
+pub mod Load

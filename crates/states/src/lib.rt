@@ -1,11 +1,16 @@
 // A state as the caller keeps it: plain numbers, handed in and handed back by value. Test 29 of it, the state at load, and a state put
 // together in settled form.
 
+mod settling;
 mod testing;
 
 ghost use mathlib.Core.Path.{_≡_};
-ghost use Rattle.states.specs.Shown.{atLoad, allZero};
+ghost use mathlib.Core.Bool.{true};
+ghost use Rattle.model.specs.Load.{accepts};
+ghost use Rattle.services.specs.Did.{Laid};
+ghost use Rattle.states.specs.Shown.{atLoad, allZero, stateFits};
 
+pub use settling::put_together;
 pub use testing::in_range;
 
 // 01, "State and clock". Test 29 looks at every number of which a range is said here; of port rows only at those of the tables' ports.
@@ -52,4 +57,12 @@ pub fn zero() -> State
         numbers: [0; 832],
         bytes: [0; 32768],
     }
+}
+
+// trial
+pub fn fits(t: &[u8], lay: services::Layout, st: State) -> bool
+    requires { ⌜ (accepts (now t) ≡ true) × Laid (now t) lay ⌝ }
+    ensures { λ r. ⌜ r ≡ stateFits (now (t .entry)) st ⌝ }
+{
+    in_range(t, lay, st.window, &st.modes, &st.numbers)
 }

@@ -1,0 +1,46 @@
+-- The state at load shows the model's, and its store indexes are in range.
+-- Assumes nothing.
+use Prim.Native.Nat.{ℕ, zero, suc, _+_, _*_, _≤_, _<_}
+use mathlib.Core.Path.{_≡_, refl, sym, _∙_, ap, ap₂}
+use mathlib.Core.Bool.{Bool, true, _&&_}
+use mathlib.Core.List.{List, []}
+use lib.Dec.{ltb}
+use lib.ListN.{getD, replicate}
+use Rattle.model.specs.Words.{all, zeros}
+use Rattle.model.specs.Tables.{Tables}
+use Rattle.model.specs.Tables.{ports as portCount}
+use Rattle.model.specs.State.{Port, State, fresh, withQueue, loaded}
+use Rattle.stores.proofs.Laws.{queue-empty}
+use Rattle.ports.specs.Held.{numbersFrom, rowOf, blockOf, storeIn, portAt, portsFrom, portsOf}
+use Rattle.states.specs.Shown.{shownState, indexed, atLoad, allNumbers, allBytes}
+
+-- zeros read anywhere
+zero-at : (m i : ℕ) → getD (zeros m) i 0 ≡ 0
+zero-at zero i = refl
+zero-at (suc m) zero = refl
+zero-at (suc m) (suc i) = zero-at m i
+
+zeros-from : (m n at : ℕ) → numbersFrom (zeros m) n at ≡ zeros n
+zeros-from m zero at = refl
+zeros-from m (suc n) at = ap₂ (λ x xs. mathlib.Core.List._∷_ x xs) (zero-at m at) (zeros-from m n (at + 1))
+
+row-zeros : (m k : ℕ) → rowOf (zeros m) k ≡ zeros 13
+unfolding rowOf
+row-zeros m k = zeros-from m 13 (13 * k)
+
+-- a port whose numbers are zeros is not created, and holds nothing
+port-zeros : (m : ℕ) (bytes : List ℕ) (k : ℕ) → portAt (zeros m) bytes k ≡ fresh
+unfolding portAt
+port-zeros m bytes k = rw (row-zeros m k) (ap (withQueue fresh) (queue-empty (storeIn (zeros 13) (blockOf bytes k)) refl))
+
+ports-zeros : (m : ℕ) (bytes : List ℕ) (n k : ℕ) → portsFrom (zeros m) bytes n k ≡ replicate n fresh
+ports-zeros m bytes zero k = refl
+ports-zeros m bytes (suc n) k = ap₂ (λ x xs. mathlib.Core.List._∷_ x xs) (port-zeros m bytes k) (ports-zeros m bytes n (suc k))
+
+shown-ports : (m : ℕ) (bytes : List ℕ) (n : ℕ) → portsOf (zeros m) bytes n ≡ replicate n fresh
+unfolding portsOf
+shown-ports m bytes n = ports-zeros m bytes n 0
+
+pub load-shown : (t : Tables) → shownState t atLoad ≡ loaded t
+unfolding atLoad loaded
+load-shown t = ?
