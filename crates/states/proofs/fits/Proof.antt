@@ -11,7 +11,7 @@ in-range-requires c κs = search needs
 
 -- src/lib.rt:63:1
 returns : tie.Need-returns
-returns c = c .in-range .ensures (c .before .before .before .before .before .before .before .args .st .time) (c .before .before .before .before .before .before .before .args .st .bytes) (search needs)
+returns c = c .in-range .ensures (c .before .before .before .before .before .before .before .args .t3 .time) (c .before .before .before .before .before .before .before .args .t3 .bytes) (search needs)
 
 pub fits-spec : {M : Type 1} → statement M
 fits-spec = tie.close (tie.spec in-range-requires returns)
