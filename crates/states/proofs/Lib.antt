@@ -2,3 +2,4 @@ pub mod Judged
 pub mod Laid
 pub mod Laws
 pub mod Load
+pub mod Parts

@@ -1,3 +1,14 @@
+-- `states::settling::put_port` meets its contract: the two parts of the row and the block are those of the settled store. Assumes nothing.
+use Prim.Native.Nat.{_+_, _*_, _≤_, _<_}
+use mathlib.Core.Path.{_≡_, refl, sym, _∙_, ap, subst}
+use mathlib.Core.List.{[], _∷_}
+use native.Mathlib.Omega.{arith}
+use lib.ListN.{length}
+use Rattle.stores.specs.declared.Store.{Store}
+use Rattle.stores.specs.Ring.{pasted, layOut, queueOf, Sized}
+use Rattle.stores.proofs.Laws.{layOut-bytes}
+use Rattle.ports.specs.Held.{storeAt}
+use Rattle.states.proofs.Parts.{pasted-behind, row-laid, block-laid}
 use borrow.Author.Needs.{needs}
 use Rattle.states.proofs.settling.put_port.Statement.{statement}
 use Rattle.states.proofs.settling.put_port.Tie as tie
@@ -15,7 +26,9 @@ take-store-requires c κs = search needs
 
 -- src/settling.rt:39:14
 settled-requires : tie.Need-settled-requires
-settled-requires c κs = ?
+settled-requires c κs =
+    let s = c .before .before .before .before .before in
+    subst Sized (sym (c .take-store .ensures)) (s .pre .1 .each (s .args .k) (omega arith))
 
 -- src/settling.rt:41:9
 number-requires : tie.Need-number-requires
@@ -55,11 +68,14 @@ lay-numbers-requires-2 c κs = search needs
 
 -- src/settling.rt:49:26
 mul-lay-bytes : tie.Need-mul-lay-bytes
-mul-lay-bytes c = ?
+mul-lay-bytes c = omega (arith, c .before .before .before .before .before .before .before .before .before .before .before .before .before .before .before .before .before .before .before .before .before .before .pre .1 .few)
 
 -- src/settling.rt:49:5
 lay-bytes-requires : tie.Need-lay-bytes-requires
-lay-bytes-requires c κs = ?
+lay-bytes-requires c κs =
+    let s = c .before .before .before .before .before .before .before .before .before .before .before .before .before .before .before .before .before .before .before .before .before .before .before .before .before in
+    let wide : length (c .before .before .before .before .before .before .before .before .before .before .before .before .before .before .before .before .before .before .before .settled .result .bytes) ≡ 512 = ap (λ (st : Store). length (st .bytes)) (c .before .before .before .before .before .before .before .before .before .before .before .before .before .before .before .before .before .before .before .settled .ensures) ∙ layOut-bytes (queueOf (c .before .before .before .before .before .before .before .before .before .before .before .before .before .before .before .before .before .before .before .before .take-store .result)) in
+    omega (arith, wide, s .pre .1 .few, s .pre .0 .1)
 
 -- src/settling.rt:34:1
 same-length : tie.Need-same-length
@@ -71,7 +87,23 @@ same-length-2 c = search needs
 
 -- src/settling.rt:34:1
 returns : tie.Need-returns
-returns c = ?
+returns c =
+    let s = c .before .before .before .before .before .before .before .before .before .before .before .before .before .before .before .before .before .before .before .before .before .before .before .before .before .before .before .before in
+    let numbers = s .args .numbers .now in
+    let bytes = s .args .bytes .now in
+    let k = s .args .k in
+    let to = s .args .out-numbers .now in
+    let st = c .before .before .before .before .before .before .before .before .before .before .before .before .before .before .before .before .before .before .before .before .before .before .settled .result in
+    let settled : st ≡ layOut (queueOf (storeAt numbers bytes k)) = c .before .before .before .before .before .before .before .before .before .before .before .before .before .before .before .before .before .before .before .before .before .before .settled .ensures ∙ ap (λ held. layOut (queueOf held)) (c .before .before .before .before .before .before .before .before .before .before .before .before .before .before .before .before .before .before .before .before .before .before .before .take-store .ensures) in
+    let first = c .before .before .before .before .before .before .before .before .before .before .before .before .before .before .before .before .before .before .before .before .before .number .result ∷ c .before .before .before .before .before .before .before .before .before .before .before .before .before .before .before .before .before .before .before .before .number2 .result ∷ c .before .before .before .before .before .before .before .before .before .before .before .before .before .before .before .before .before .before .before .number3 .result ∷ st .oldest ∷ st .count ∷ [] in
+    record {
+      numbersLaid =
+          c .before .before .before .before .before .before .before .before .before .lay-numbers2 .ensures
+          ∙ ap (λ l. pasted l (13 * k + 5) (st .lengths)) (c .before .before .before .before .before .before .before .before .before .before .before .before .before .before .before .before .lay-numbers .ensures)
+          ∙ pasted-behind to (13 * k) first (st .lengths) (omega (arith, s .pre .1 .few, s .pre .0 .0))
+          ∙ ap (pasted to (13 * k)) (row-laid numbers bytes k settled (c .before .before .before .before .before .before .before .before .before .before .before .before .before .before .before .before .before .before .before .before .before .number .ensures) (c .before .before .before .before .before .before .before .before .before .before .before .before .before .before .before .before .before .before .before .before .number2 .ensures) (c .before .before .before .before .before .before .before .before .before .before .before .before .before .before .before .before .before .before .before .number3 .ensures));
+      bytesLaid = c .before .before .lay-bytes .ensures ∙ ap (pasted (s .args .out-bytes .now) (512 * k)) (block-laid numbers bytes k settled);
+    }
 
 pub put-port-spec : {M : Type 1} → statement M
 put-port-spec =
