@@ -1,10 +1,9 @@
 -- Test 29 as the code makes it is the model's: the numbers of a port tell what the model asks of the port, whatever its message bytes.
 -- Assumes nothing.
-use Prim.Native.Nat.{ℕ, zero, suc, _+_, _-_, _%_, _≤_, _<_}
+use Prim.Native.Nat.{ℕ, zero, suc, _+_, _≤_, _<_}
 use mathlib.Core.Path.{_≡_, refl, sym, _∙_, ap, ap₂}
 use mathlib.Core.Bool.{Bool, true, false, _&&_, _||_}
 use mathlib.Core.List.{List, [], _∷_}
-use native.Mathlib.Nat.{zero-add}
 use native.Mathlib.Omega.{arith}
 use lib.Dec.{leb, ltb, eqb}
 use lib.ListN.{length, getD, drop}
@@ -13,7 +12,7 @@ use borrow.Author.Tests.{le-leb, lt-leb, lt-ltb, le-ltb, eq-eqb, ne-eqb, eqb-tru
 use Rattle.model.specs.Words.{between, all, allIn}
 use Rattle.model.specs.Tables.{Tables, windows, Row, row, room}
 use Rattle.model.specs.Tables.{ports as portCount}
-use Rattle.model.specs.State.{Clock, Port, normal, shortest, isCreated, portInRange, portsInRange, inRange}
+use Rattle.model.specs.State.{Clock, shortest, portInRange, portsInRange, inRange}
 use Rattle.model.proofs.Ranges.{fits}
 use Rattle.model.proofs.Accepted.{Accepted}
 use Rattle.tables.specs.Shown as Shown
@@ -132,10 +131,12 @@ module _ (r : Row) (n : List ℕ) where
             go false e = rw e
             go true e = rw (e, eqb-true (getD n 4 0) 0 e)
 
-        pub created : getD n 0 0 ≡ 1 → numbersFit r n ≡ lengthsFit (r .largest) n (getD n 3 0) (getD n 4 0)
+        pub created : getD n 0 0 ≡ 1 → {oldest stored : ℕ} {answer : Bool} → oldest ≡ getD n 3 0 → stored ≡ getD n 4 0
+            → answer ≡ lengthsFit (r .largest) n oldest stored → answer ≡ numbersFit r n
         unfolding numbersFit
-        created h =
+        created h o s e =
             rw (le-leb (getD n 0 0) 1 mark, le-leb (getD n 1 0) 1 validity, lt-ltb (getD n 3 0) 8 index, le-leb (getD n 4 0) (room r) count, eq-eqb (getD n 0 0) 1 h)
+            (e ∙ ap₂ (lengthsFit (r .largest) n) o s)
 
 -- ---- all ports
 

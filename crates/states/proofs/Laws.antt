@@ -3,8 +3,7 @@
 use Prim.Native.Nat.{ℕ, zero, suc, _+_, _*_, _≤_, _<_}
 use mathlib.Core.Path.{_≡_, refl, sym, _∙_, ap, ap₂, subst}
 use mathlib.Core.Bool.{Bool, true, _&&_}
-use mathlib.Core.List.{List, [], _∷_, _++_, map}
-use native.Mathlib.Nat.{zero-add}
+use mathlib.Core.List.{List}
 use native.Mathlib.Omega.{arith}
 use lib.Dec.{ltb}
 use lib.ListN.{length, getD, drop}
@@ -13,7 +12,7 @@ use Rattle.model.specs.Words.{all}
 use Rattle.model.specs.Tables.{Tables, row}
 use Rattle.model.specs.Tables.{ports as portCount}
 use Rattle.model.specs.Load.{accepts}
-use Rattle.model.specs.State.{Clock, Port, State, fresh, withQueue, inRange}
+use Rattle.model.specs.State.{Clock, Port, fresh, withQueue, inRange}
 use Rattle.model.proofs.Tests.{both}
 use Rattle.model.proofs.Accepted.{Accepted, accepted}
 use Rattle.model.proofs.Rows.{RowRanges}
@@ -21,7 +20,7 @@ use Rattle.model.proofs.Ranges.{PortRanged, ranged}
 use Rattle.tables.specs.Shown as Shown
 use Rattle.stores.specs.Ring.{layOut, queueOf, Short}
 use Rattle.stores.proofs.Laws.{queue-length, queue-short, queue-layOut}
-use Rattle.ports.specs.Held.{rowOf, blockOf, storeAt, portIn, portAt, portsOf}
+use Rattle.ports.specs.Held.{rowOf, storeAt, portIn, portAt, portsOf}
 use Rattle.ports.proofs.Ports.{ports-length, ports-at, store-queue, store-bytes, store-lengths}
 use Rattle.services.specs.declared.Layout.{Layout}
 use Rattle.services.specs.Did.{Laid, Held, shown}
@@ -130,11 +129,11 @@ stored-of {t} {lay} {numbers} {bytes} h =
       blocks = h .blocks;
       few = a .fewPorts;
       each = λ k l.
-      let shows : Shown.rowOf (Shown.decoded (row t k)) ≡ row t k = row-read t a k l refl in
-      sized-of numbers bytes k (Shown.decoded (row t k))
-      (record {
-        lent = record { rows = h .rows; blocks = h .blocks; there = omega (arith, a .fewPorts) };
-        ranges = subst RowRanges (sym shows) (a .rows k l);
-        port = subst (λ r. PortRanged r (portAt numbers bytes k)) (sym shows) (h .each k l);
-      });
+          let shows : Shown.rowOf (Shown.decoded (row t k)) ≡ row t k = row-read t a k l refl in
+          sized-of numbers bytes k (Shown.decoded (row t k))
+          (record {
+            lent = record { rows = h .rows; blocks = h .blocks; there = omega (arith, a .fewPorts) };
+            ranges = subst RowRanges (sym shows) (a .rows k l);
+            port = subst (λ r. PortRanged r (portAt numbers bytes k)) (sym shows) (h .each k l);
+          });
     }

@@ -1,19 +1,23 @@
--- The state at load shows the model's, and its store indexes are in range.
+-- The state at load shows the model's, and passes test 29.
 -- Assumes nothing.
-use Prim.Native.Nat.{ℕ, zero, suc, _+_, _*_, _≤_, _<_}
-use mathlib.Core.Path.{_≡_, refl, sym, _∙_, ap, ap₂}
-use mathlib.Core.Bool.{Bool, true, _&&_}
+use Prim.Native.Nat.{ℕ, zero, suc, _+_, _*_}
+use mathlib.Core.Path.{_≡_, refl, _∙_, ap, ap₂}
+use mathlib.Core.Bool.{true}
 use mathlib.Core.List.{List, _∷_}
 use lib.Dec.{ltb}
 use lib.ListN.{getD, replicate}
 use Rattle.model.specs.Words.{all, zeros}
 use Rattle.model.specs.Tables.{Tables}
 use Rattle.model.specs.Tables.{ports as portCount}
-use Rattle.model.specs.State.{Port, State, partitions, coldStart, fresh, withQueue, loaded}
+use Rattle.model.specs.State.{partitions, coldStart, fresh, withQueue, loaded, inRange}
+use Rattle.model.specs.Load.{accepts}
 use Rattle.model.proofs.Tests.{both}
+use Rattle.model.proofs.Accepted.{accepted}
+use Rattle.model.proofs.Ranges.{in-range}
+use Rattle.model.proofs.Reached.{loaded-ranged}
 use Rattle.stores.proofs.Laws.{queue-empty}
 use Rattle.ports.specs.Held.{numbersFrom, rowOf, blockOf, storeIn, portAt, portsFrom, portsOf}
-use Rattle.states.specs.Shown.{shownState, indexed, atLoad, allNumbers, allBytes}
+use Rattle.states.specs.Shown.{shownState, indexed, stateFits, atLoad, allNumbers, allBytes}
 
 -- zeros read anywhere
 zero-at : (m i : ℕ) → getD (zeros m) i 0 ≡ 0
@@ -55,3 +59,6 @@ load-shown t =
 pub load-indexed : (t : Tables) → indexed t (atLoad .numbers) ≡ true
 unfolding atLoad indexed
 load-indexed t = first-places allNumbers (portCount t) 0
+
+pub load-fits : (t : Tables) → accepts t ≡ true → stateFits t atLoad ≡ true
+load-fits t ok = both (ap (inRange t) (load-shown t) ∙ in-range t (loaded t) (loaded-ranged t (accepted t ok))) (load-indexed t)

@@ -1,7 +1,7 @@
 -- What the code does to put a state together: a port's numbers laid in two parts, and one port after another.
 -- Assumes nothing.
-use Prim.Native.Nat.{ℕ, zero, suc, _+_, _*_, _≤_, _<_}
-use mathlib.Core.Path.{_≡_, refl, sym, _∙_, ap, ap₂}
+use Prim.Native.Nat.{ℕ, zero, suc, _+_, _*_, _≤_}
+use mathlib.Core.Path.{_≡_, sym, _∙_, ap, ap₂}
 use mathlib.Core.List.{List, [], _∷_, _++_, append-assoc}
 use native.Mathlib.Nat.{zero-add, add-zero}
 use native.Mathlib.Numerals.{add-one}
@@ -68,16 +68,21 @@ module _ (numbers bytes old : List ℕ) where
   unfolding settledBytes portsOf
   bytes-none = sym (laid-none portBytes 512 bytes-length old)
 
-  pub numbers-next : (k : ℕ) → pasted (settledNumbers (portsOf numbers bytes k) old) (13 * k) (portNumbers (portAt numbers bytes k)) ≡ settledNumbers (portsOf numbers bytes (k + 1)) old
+  -- what stands after a turn, from what stood before it and from the port that the turn laid
+  pub numbers-next : (k : ℕ) {before after : List ℕ} → before ≡ settledNumbers (portsOf numbers bytes k) old
+      → after ≡ pasted before (13 * k) (portNumbers (portAt numbers bytes k)) → after ≡ settledNumbers (portsOf numbers bytes (k + 1)) old
   unfolding settledNumbers
-  numbers-next k =
-      ap (λ n. pasted (settledNumbers (portsOf numbers bytes k) old) (13 * n) (portNumbers (portAt numbers bytes k))) (sym (ports-length numbers bytes k))
+  numbers-next k so-far laid =
+      laid
+      ∙ ap₂ (λ l n. pasted l (13 * n) (portNumbers (portAt numbers bytes k))) so-far (sym (ports-length numbers bytes k))
       ∙ laid-next portNumbers 13 numbers-length (portsOf numbers bytes k) (portAt numbers bytes k) old
       ∙ ap (λ ps. settledNumbers ps old) (sym (ports-last numbers bytes k))
 
-  pub bytes-next : (k : ℕ) → pasted (settledBytes (portsOf numbers bytes k) old) (512 * k) (portBytes (portAt numbers bytes k)) ≡ settledBytes (portsOf numbers bytes (k + 1)) old
+  pub bytes-next : (k : ℕ) {before after : List ℕ} → before ≡ settledBytes (portsOf numbers bytes k) old
+      → after ≡ pasted before (512 * k) (portBytes (portAt numbers bytes k)) → after ≡ settledBytes (portsOf numbers bytes (k + 1)) old
   unfolding settledBytes
-  bytes-next k =
-      ap (λ n. pasted (settledBytes (portsOf numbers bytes k) old) (512 * n) (portBytes (portAt numbers bytes k))) (sym (ports-length numbers bytes k))
+  bytes-next k so-far laid =
+      laid
+      ∙ ap₂ (λ l n. pasted l (512 * n) (portBytes (portAt numbers bytes k))) so-far (sym (ports-length numbers bytes k))
       ∙ laid-next portBytes 512 bytes-length (portsOf numbers bytes k) (portAt numbers bytes k) old
       ∙ ap (λ ps. settledBytes ps old) (sym (ports-last numbers bytes k))

@@ -5,11 +5,7 @@ mod settling;
 mod testing;
 
 ghost use mathlib.Core.Path.{_≡_};
-ghost use mathlib.Core.Bool.{true};
-ghost use Rattle.model.specs.Load.{accepts};
-ghost use Rattle.services.specs.Did.{Laid};
-ghost use Rattle.states.specs.Shown.{atLoad, allZero, stateFits};
-
+ghost use Rattle.states.specs.Shown.{atLoad, allZero};
 pub use settling::put_together;
 pub use testing::in_range;
 
@@ -57,12 +53,4 @@ pub fn zero() -> State
         numbers: [0; 832],
         bytes: [0; 32768],
     }
-}
-
-// trial
-pub fn fits(t: &[u8], lay: services::Layout, st: State) -> bool
-    requires { ⌜ (accepts (now t) ≡ true) × Laid (now t) lay ⌝ }
-    ensures { λ r. ⌜ r ≡ stateFits (now (t .entry)) st ⌝ }
-{
-    in_range(t, lay, st.window, &st.modes, &st.numbers)
 }

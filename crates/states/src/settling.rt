@@ -36,7 +36,8 @@ fn put_port(numbers: &[u32], bytes: &[u8], k: usize, out_numbers: &mut [u32], ou
     requires { ⌜ Stored (now numbers) (now bytes) (k + 1) ⌝ }
     ensures { λ _. ⌜ PortLaid (now (numbers .entry)) (now (bytes .entry)) k (now («out_numbers» .entry)) (now («out_bytes» .entry)) (now («out_numbers» .exit)) (now («out_bytes» .exit)) ⌝ }
 {
-    let st = stores::settled(ports::take_store(numbers, bytes, k));
+    let held = ports::take_store(numbers, bytes, k);
+    let st = stores::settled(held);
     let first = [
         number(numbers, k, ports::CREATED),
         number(numbers, k, ports::VALIDITY),
@@ -51,7 +52,13 @@ fn put_port(numbers: &[u32], bytes: &[u8], k: usize, out_numbers: &mut [u32], ou
 
 // The first n ports in settled form: the oldest message in slot 0, zeros wherever no message stands. The other rows stay, since those
 // beyond the tables' ports come back as they came.
-pub fn put_together(numbers: &[u32], bytes: &[u8], n: usize, out_numbers: &mut [u32], out_bytes: &mut [u8])
+pub fn put_together(
+    numbers: &[u32],
+    bytes: &[u8],
+    n: usize,
+    out_numbers: &mut [u32],
+    out_bytes: &mut [u8],
+)
     requires { ⌜ (length (now «out_numbers») ≡ 832) × (length (now «out_bytes») ≡ 32768) ⌝ }
     requires { ⌜ Stored (now numbers) (now bytes) n ⌝ }
     ensures { λ _. ⌜ PutTogether (now (numbers .entry)) (now (bytes .entry)) n (now («out_numbers» .entry)) (now («out_bytes» .entry)) (now («out_numbers» .exit)) (now («out_bytes» .exit)) ⌝ }

@@ -8,8 +8,6 @@ use borrow.Author.Needs.{needs}
 use Rattle.stores.proofs.Lists.{paste-pasted, paste-turn}
 use Rattle.states.proofs.settling.lay_numbers.Statement.{statement}
 use Rattle.states.proofs.settling.lay_numbers.Tie as tie
-use Rattle.states.proofs.settling.lay_numbers.Reads as reads
-use Rattle.states.proofs.settling.lay_numbers.Lts as lts
 
 abbrev Inv-loop : tie.InvT-loop
 Inv-loop to₀ at part i₀ to i = (i ≤ length part) × (length to ≡ length to₀) × (to ≡ paste to₀ at part i)
@@ -17,39 +15,30 @@ Inv-loop to₀ at part i₀ to i = (i ≤ length part) × (length to ≡ length 
 abbrev μ-loop : tie.MeasureT-loop
 μ-loop to₀ at part i₀ to i = length part - i
 
--- src/settling.rt:15:5
 loop-holds : tie.Need-loop-holds Inv-loop μ-loop
 loop-holds c = (omega arith, refl, paste-zero (c .args .to .now) (c .args .at) (c .args .part .now))
 
--- src/settling.rt:16:22
 mul-to : tie.Need-mul-to Inv-loop μ-loop
 mul-to c = search needs
 
--- src/settling.rt:16:22
 shared-slice-read-to : tie.Need-shared-slice-read-to Inv-loop μ-loop
 shared-slice-read-to c = search needs
 
--- src/settling.rt:16:12
 add-to : tie.Need-add-to Inv-loop μ-loop
 add-to c = search needs
 
--- src/settling.rt:16:9
 mul-to-2 : tie.Need-mul-to-2 Inv-loop μ-loop
 mul-to-2 c = search needs
 
--- src/settling.rt:16:9
 slice-write-to : tie.Need-slice-write-to Inv-loop μ-loop
 slice-write-to c = search needs
 
--- src/settling.rt:17:13
 add-i : tie.Need-add-i Inv-loop μ-loop
 add-i c = search needs
 
--- src/settling.rt:15:5
 loop-less : tie.Need-loop-less Inv-loop μ-loop
 loop-less c = search needs
 
--- src/settling.rt:15:5
 loop-again : tie.Need-loop-again Inv-loop μ-loop
 loop-again c =
     let a = c .before .before .before .args in
@@ -59,11 +48,9 @@ loop-again c =
       paste-turn (a .to .now) (a .at) (a .part .now) (l .i) (l .inv .2) refl refl (omega arith) (omega arith),
     )
 
--- src/settling.rt:10:1
 same-length : tie.Need-same-length Inv-loop μ-loop
 same-length c = search needs
 
--- src/settling.rt:10:1
 returns : tie.Need-returns Inv-loop μ-loop
 returns c =
     let a = c .before .before .args in

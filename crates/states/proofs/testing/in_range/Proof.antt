@@ -1,5 +1,4 @@
 -- `states::testing::in_range` meets its contract: window, modes and ports are all that the model's test looks at. Assumes nothing.
-use Prim.Native.Nat.{_≤_, _<_}
 use mathlib.Core.Path.{_≡_, sym, _∙_, ap}
 use mathlib.Core.Bool.{true, false, _&&_}
 use native.Mathlib.Omega.{arith}
@@ -12,12 +11,7 @@ use Rattle.states.proofs.Judged.{state-judged}
 use borrow.Author.Needs.{needs}
 use Rattle.states.proofs.testing.in_range.Statement.{statement}
 use Rattle.states.proofs.testing.in_range.Tie as tie
-use Rattle.states.proofs.testing.in_range.Reads as reads
-use Rattle.states.proofs.testing.in_range.Lts as lts
-use Rattle.states.proofs.testing.modes_fit.Reads as modes-fit-reads
-use Rattle.states.proofs.testing.ports_fit.Reads as ports-fit-reads
 
--- src/testing.rt:117:9
 returns : tie.Need-returns
 returns c time bytes wide =
     let s = c .before .before .before .before .before in
@@ -29,11 +23,9 @@ returns c time bytes wide =
     let past : ltb (s .args .window) (windows t) ≡ false = le-ltb (s .args .window) (windows t) (omega (arith, laid .windowed, c .if1 .taken)) in
     sym (same ∙ ap (λ b. b && modesFit modes && eachFits t numbers) past)
 
--- src/testing.rt:119:9
 modes-fit-requires : tie.Need-modes-fit-requires
 modes-fit-requires c κs = search needs
 
--- src/testing.rt:120:9
 returns-2 : tie.Need-returns-2
 returns-2 c time bytes wide =
     let s = c .before .before .before .before .before .before .before in
@@ -46,11 +38,9 @@ returns-2 c time bytes wide =
     let out : modesFit modes ≡ false = sym (c .before .modes-fit .ensures) ∙ not-true _ (c .if2 .taken) in
     sym (same ∙ ap (λ b. b && modesFit modes && eachFits t numbers) inside ∙ ap (λ b. b && eachFits t numbers) out)
 
--- src/testing.rt:122:5
 ports-fit-requires : tie.Need-ports-fit-requires
 ports-fit-requires c κs = search needs
 
--- src/testing.rt:111:1
 returns-3 : tie.Need-returns-3
 returns-3 c time bytes wide =
     let s = c .before .before .before .before .before .before .before .before in

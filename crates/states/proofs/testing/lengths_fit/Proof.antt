@@ -1,22 +1,19 @@
 -- `states::testing::lengths_fit` meets its contract: the whole test is what is left of it. Assumes nothing.
 use borrow.Author.Needs.{needs}
 use Prim.Native.Nat.{_+_, _-_, _%_, _≤_, _<_}
-use mathlib.Core.Path.{_≡_, refl, sym, _∙_, ap}
-use mathlib.Core.Bool.{Bool, true, false}
+use mathlib.Core.Path.{_≡_, sym, _∙_, ap}
+use mathlib.Core.Bool.{true, false}
 use native.Mathlib.Omega.{arith}
 use lib.Dec.{leb}
-use lib.ListN.{length, getD}
+use lib.ListN.{getD}
 use borrow.Author.Tests.{le-leb, lt-leb}
-use Rattle.model.specs.Words.{all, between}
+use Rattle.model.specs.Words.{all}
 use Rattle.model.proofs.Searches.{all-more, all-stop, all-end}
 use Rattle.model.proofs.Tests.{is-between}
 use Rattle.ports.specs.Held.{rowOf}
 use Rattle.states.specs.Tested.{lengthFits, lengthsFit}
 use Rattle.states.proofs.testing.lengths_fit.Statement.{statement}
 use Rattle.states.proofs.testing.lengths_fit.Tie as tie
-use Rattle.states.proofs.testing.lengths_fit.Reads as reads
-use Rattle.states.proofs.testing.lengths_fit.Lts as lts
-use Rattle.ports.proofs.number.Reads as number-reads
 
 abbrev Inv-loop : tie.InvT-loop
 Inv-loop numbers k largest oldest count i₀ i = (i ≤ count) × (lengthsFit largest (rowOf numbers k) oldest count ≡ all (lengthFits largest (rowOf numbers k) oldest) (count - i) i)
@@ -24,30 +21,24 @@ Inv-loop numbers k largest oldest count i₀ i = (i ≤ count) × (lengthsFit la
 abbrev μ-loop : tie.MeasureT-loop
 μ-loop numbers k largest oldest count i₀ i = count - i
 
--- src/testing.rt:50:5
 loop-holds : tie.Need-loop-holds Inv-loop μ-loop
 loop-holds c =
     let a = c .before .args in
     let whole : a .count - 0 ≡ a .count = omega arith in
     (omega arith, ap (λ n. all (lengthFits (a .largest) (rowOf (a .numbers .now) (a .k)) (a .oldest)) n 0) (sym whole))
 
--- src/testing.rt:51:22
 add-slot : tie.Need-add-slot Inv-loop μ-loop
 add-slot c = search needs
 
--- src/testing.rt:51:20
 cast-slot : tie.Need-cast-slot Inv-loop μ-loop
 cast-slot c = search needs
 
--- src/testing.rt:52:46
 add-number : tie.Need-add-number Inv-loop μ-loop
 add-number c = search needs
 
--- src/testing.rt:52:13
 number-requires : tie.Need-number-requires Inv-loop μ-loop
 number-requires c κs = search needs
 
--- src/testing.rt:54:13
 returns : tie.Need-returns Inv-loop μ-loop
 returns c =
     let a = c .before .before .before .before .before .args in
@@ -59,7 +50,6 @@ returns c =
     let low : leb 1 (getD row place 0) ≡ false = lt-leb 1 (getD row place 0) (omega (arith, read, c .if1 .taken)) in
     sym (l .inv .1 ∙ all-stop (lengthFits (a .largest) row (a .oldest)) (a .count) (l .i) more (rw low))
 
--- src/testing.rt:57:13
 returns-2 : tie.Need-returns-2 Inv-loop μ-loop
 returns-2 c =
     let a = c .before .before .before .before .before .before .args in
@@ -72,15 +62,12 @@ returns-2 c =
     let high : leb (getD row place 0) (a .largest) ≡ false = lt-leb (getD row place 0) (a .largest) (omega (arith, read, c .if2 .taken)) in
     sym (l .inv .1 ∙ all-stop (lengthFits (a .largest) row (a .oldest)) (a .count) (l .i) more (rw (some, high)))
 
--- src/testing.rt:59:13
 add-i : tie.Need-add-i Inv-loop μ-loop
 add-i c = search needs
 
--- src/testing.rt:50:5
 loop-less : tie.Need-loop-less Inv-loop μ-loop
 loop-less c = search needs
 
--- src/testing.rt:50:5
 loop-again : tie.Need-loop-again Inv-loop μ-loop
 loop-again c =
     let a = c .before .before .before .before .before .before .args in
@@ -94,7 +81,6 @@ loop-again c =
     in
     (omega arith, l .inv .1 ∙ all-more (lengthFits (a .largest) row (a .oldest)) (a .count) (l .i) more fits)
 
--- src/testing.rt:44:1
 returns-3 : tie.Need-returns-3 Inv-loop μ-loop
 returns-3 c =
     let a = c .before .before .before .args in

@@ -1,25 +1,17 @@
 -- `states::testing::port_fits` meets its contract: the tests in their order. Assumes nothing.
-use mathlib.Core.Path.{_≡_, sym, _∙_, ap, ap₂}
+use mathlib.Core.Path.{sym, _∙_, ap}
 use native.Mathlib.Omega.{arith}
 use lib.Dec.{eqb}
 use Rattle.tables.specs.Shown as Shown
 use Rattle.ports.specs.Held.{rowOf}
-use Rattle.states.specs.Tested.{lengthsFit}
 use Rattle.states.proofs.Judged.{mark-out, validity-out, index-out, count-out, uncreated, created}
 use borrow.Author.Needs.{needs}
 use Rattle.states.proofs.testing.port_fits.Statement.{statement}
 use Rattle.states.proofs.testing.port_fits.Tie as tie
-use Rattle.states.proofs.testing.port_fits.Reads as reads
-use Rattle.states.proofs.testing.port_fits.Lts as lts
-use Rattle.ports.proofs.number.Reads as number-reads
-use Rattle.states.proofs.testing.lengths_fit.Reads as lengths-fit-reads
-use Rattle.states.proofs.testing.room.Reads as room-reads
 
--- src/testing.rt:71:9
 number-requires : tie.Need-number-requires
 number-requires c κs = search needs
 
--- src/testing.rt:73:9
 returns : tie.Need-returns
 returns c =
     let a = c .before .before .before .args in
@@ -27,11 +19,9 @@ returns c =
     let n = rowOf (a .numbers .now) (a .k) in
     sym (mark-out row n (omega (arith, c .before .number .ensures, c .if1 .taken)))
 
--- src/testing.rt:75:12
 number-requires-2 : tie.Need-number-requires-2
 number-requires-2 c κs = search needs
 
--- src/testing.rt:76:9
 returns-2 : tie.Need-returns-2
 returns-2 c =
     let a = c .before .before .before .before .before .args in
@@ -39,11 +29,9 @@ returns-2 c =
     let n = rowOf (a .numbers .now) (a .k) in
     sym (validity-out row n (omega (arith, c .before .before .before .number .ensures, c .before .before .if1 .left)) (omega (arith, c .before .number2 .ensures, c .if2 .taken)))
 
--- src/testing.rt:78:9
 number-requires-3 : tie.Need-number-requires-3
 number-requires-3 c κs = search needs
 
--- src/testing.rt:80:9
 returns-3 : tie.Need-returns-3
 returns-3 c =
     let a = c .before .before .before .before .before .before .before .args in
@@ -51,15 +39,12 @@ returns-3 c =
     let n = rowOf (a .numbers .now) (a .k) in
     sym (index-out row n (omega (arith, c .before .before .before .before .before .number .ensures, c .before .before .before .before .if1 .left)) (omega (arith, c .before .before .before .number2 .ensures, c .before .before .if2 .left)) (omega (arith, c .before .number3 .ensures, c .if3 .taken)))
 
--- src/testing.rt:82:9
 number-requires-4 : tie.Need-number-requires-4
 number-requires-4 c κs = search needs
 
--- src/testing.rt:83:8
 room-requires : tie.Need-room-requires
 room-requires c κs = search needs
 
--- src/testing.rt:84:9
 returns-4 : tie.Need-returns-4
 returns-4 c =
     let a = c .before .before .before .before .before .before .before .before .before .before .args in
@@ -67,7 +52,6 @@ returns-4 c =
     let n = rowOf (a .numbers .now) (a .k) in
     sym (count-out row n (omega (arith, c .before .before .before .before .before .before .before .before .number .ensures, c .before .before .before .before .before .before .before .if1 .left)) (omega (arith, c .before .before .before .before .before .before .number2 .ensures, c .before .before .before .before .before .if2 .left)) (omega (arith, c .before .before .before .before .number3 .ensures, c .before .before .before .if3 .left)) (omega (arith, c .before .before .number4 .ensures, c .before .room .ensures, c .if4 .taken)))
 
--- src/testing.rt:87:9
 returns-5 : tie.Need-returns-5
 returns-5 c =
     let a = c .before .before .before .before .before .before .before .before .before .before .before .args in
@@ -75,21 +59,17 @@ returns-5 c =
     let n = rowOf (a .numbers .now) (a .k) in
     ap (λ x. eqb x 0) (c .before .before .before .number4 .ensures) ∙ sym (uncreated row n (omega (arith, c .before .before .before .before .before .before .before .before .before .number .ensures, c .before .before .before .before .before .before .before .before .if1 .left)) (omega (arith, c .before .before .before .before .before .before .before .number2 .ensures, c .before .before .before .before .before .before .if2 .left)) (omega (arith, c .before .before .before .before .before .number3 .ensures, c .before .before .before .before .if3 .left)) (omega (arith, c .before .before .before .number4 .ensures, c .before .before .room .ensures, c .before .if4 .left)) (λ q. c .if5 .taken (c .before .before .before .before .before .before .before .before .before .number .ensures ∙ q)))
 
--- src/testing.rt:89:5
 lengths-fit-requires : tie.Need-lengths-fit-requires
 lengths-fit-requires c κs =
     let ranges = c .before .before .before .before .before .before .before .before .before .before .before .pre .1 in
     (search needs, omega (arith, ranges .keepsFew, c .before .before .room .ensures, c .before .before .before .before .if3 .left, c .before .if4 .left))
 
--- src/testing.rt:66:1
 returns-6 : tie.Need-returns-6
 returns-6 c =
     let a = c .before .before .before .before .before .before .before .before .before .before .before .before .args in
     let row = Shown.rowOf (a .row) in
     let n = rowOf (a .numbers .now) (a .k) in
-    c .lengths-fit .ensures
-    ∙ ap₂ (lengthsFit (a .row .largest) n) (c .before .before .before .before .before .before .number3 .ensures) (c .before .before .before .before .number4 .ensures)
-    ∙ sym (created row n (omega (arith, c .before .before .before .before .before .before .before .before .before .before .number .ensures, c .before .before .before .before .before .before .before .before .before .if1 .left)) (omega (arith, c .before .before .before .before .before .before .before .before .number2 .ensures, c .before .before .before .before .before .before .before .if2 .left)) (omega (arith, c .before .before .before .before .before .before .number3 .ensures, c .before .before .before .before .before .if3 .left)) (omega (arith, c .before .before .before .before .number4 .ensures, c .before .before .before .room .ensures, c .before .before .if4 .left)) (sym (c .before .before .before .before .before .before .before .before .before .before .number .ensures) ∙ c .before .if5 .left))
+    created row n (omega (arith, c .before .before .before .before .before .before .before .before .before .before .number .ensures, c .before .before .before .before .before .before .before .before .before .if1 .left)) (omega (arith, c .before .before .before .before .before .before .before .before .number2 .ensures, c .before .before .before .before .before .before .before .if2 .left)) (omega (arith, c .before .before .before .before .before .before .number3 .ensures, c .before .before .before .before .before .if3 .left)) (omega (arith, c .before .before .before .before .number4 .ensures, c .before .before .before .room .ensures, c .before .before .if4 .left)) (sym (c .before .before .before .before .before .before .before .before .before .before .number .ensures) ∙ c .before .if5 .left) (c .before .before .before .before .before .before .number3 .ensures) (c .before .before .before .before .number4 .ensures) (c .lengths-fit .ensures)
 
 pub port-fits-spec : {M : Type 1} → statement M
 port-fits-spec =

@@ -1,12 +1,11 @@
 -- `states::testing::ports_fit` meets its contract: the whole test is what is left of it. Assumes nothing.
 use Prim.Native.Nat.{_+_, _-_, _≤_, _<_}
-use mathlib.Core.Path.{_≡_, refl, sym, _∙_, ap, subst}
-use mathlib.Core.Bool.{true, false}
+use mathlib.Core.Path.{_≡_, sym, _∙_, ap, subst}
 use native.Mathlib.Omega.{arith}
 use borrow.Author.Needs.{needs}
 use borrow.Author.Tests.{not-true, not-false}
 use Rattle.model.specs.Words.{all}
-use Rattle.model.specs.Tables.{windows, ports, row, rowAt}
+use Rattle.model.specs.Tables.{ports, row, rowAt}
 use Rattle.model.proofs.Searches.{all-more, all-stop, all-end}
 use Rattle.model.proofs.Accepted.{accepted}
 use Rattle.model.proofs.Rows.{RowRanges}
@@ -16,10 +15,6 @@ use Rattle.states.specs.Tested.{numbersFit, portFits, eachFits}
 use Rattle.states.proofs.Judged.{row-read}
 use Rattle.states.proofs.testing.ports_fit.Statement.{statement}
 use Rattle.states.proofs.testing.ports_fit.Tie as tie
-use Rattle.states.proofs.testing.ports_fit.Reads as reads
-use Rattle.states.proofs.testing.ports_fit.Lts as lts
-use Rattle.states.proofs.testing.port_fits.Reads as port-fits-reads
-use Rattle.tables.proofs.port_row.Reads as port-row-reads
 
 abbrev Inv-loop : tie.InvT-loop
 Inv-loop t lay numbers k₀ k = (k ≤ ports t) × (eachFits t numbers ≡ all (portFits t numbers) (ports t - k) k)
@@ -27,7 +22,6 @@ Inv-loop t lay numbers k₀ k = (k ≤ ports t) × (eachFits t numbers ≡ all (
 abbrev μ-loop : tie.MeasureT-loop
 μ-loop t lay numbers k₀ k = lay .ports - k
 
--- src/testing.rt:99:5
 loop-holds : tie.Need-loop-holds Inv-loop μ-loop
 unfolding eachFits
 loop-holds c =
@@ -35,7 +29,6 @@ loop-holds c =
     let whole : ports t - 0 ≡ ports t = omega arith in
     (omega arith, ap (λ n. all (portFits t (c .before .before .args .numbers .now)) n 0) (sym whole))
 
--- src/testing.rt:100:39
 add-port-row : tie.Need-add-port-row Inv-loop μ-loop
 add-port-row c =
     let s = c .before .before .before .before .before .before in
@@ -45,7 +38,6 @@ add-port-row c =
     let a = accepted t (s .pre .0 .0) in
     omega (arith, laid .windowed, laid .ported, a .fewWindows, a .fewPorts, c .before .if1 .taken)
 
--- src/testing.rt:100:13
 port-row-requires : tie.Need-port-row-requires Inv-loop μ-loop
 port-row-requires c κs =
     let s = c .before .before .before .before .before .before in
@@ -55,7 +47,6 @@ port-row-requires c κs =
     let a = accepted t (s .pre .0 .0) in
     omega (arith, laid .windowed, laid .ported, a .portsAfter, a .channelsAfter, c .before .if1 .taken)
 
--- src/testing.rt:101:13
 port-fits-requires : tie.Need-port-fits-requires Inv-loop μ-loop
 port-fits-requires c κs =
     let s = c .before .before .before .before .before .before .before in
@@ -67,7 +58,6 @@ port-fits-requires c κs =
     let shows : Shown.rowOf (c .port-row .result) ≡ row t (l .k) = row-read t a (l .k) inside (c .port-row .ensures ∙ ap (λ w. Shown.decoded (rowAt t (w + l .k))) (laid .windowed)) in
     ((s .pre .1, omega (arith, a .fewPorts)), subst RowRanges (sym shows) (a .rows (l .k) inside))
 
--- src/testing.rt:102:13
 returns : tie.Need-returns Inv-loop μ-loop
 returns c =
     let s = c .before .before .before .before .before .before .before .before .before in
@@ -80,15 +70,12 @@ returns c =
     let judged : c .before .port-fits .result ≡ portFits t (s .args .numbers .now) (l .k) = c .before .port-fits .ensures ∙ ap (λ r. numbersFit r (rowOf (s .args .numbers .now) (l .k))) shows in
     sym (l .inv .1 ∙ all-stop (portFits t (s .args .numbers .now)) (ports t) (l .k) inside (sym judged ∙ not-true _ (c .if2 .taken)))
 
--- src/testing.rt:104:13
 add-k : tie.Need-add-k Inv-loop μ-loop
 add-k c = search needs
 
--- src/testing.rt:99:5
 loop-less : tie.Need-loop-less Inv-loop μ-loop
 loop-less c = search needs
 
--- src/testing.rt:99:5
 loop-again : tie.Need-loop-again Inv-loop μ-loop
 loop-again c =
     let s = c .before .before .before .before .before .before .before .before .before in
@@ -101,7 +88,6 @@ loop-again c =
     let judged : c .before .port-fits .result ≡ portFits t (s .args .numbers .now) (l .k) = c .before .port-fits .ensures ∙ ap (λ r. numbersFit r (rowOf (s .args .numbers .now) (l .k))) shows in
     (omega arith, l .inv .1 ∙ all-more (portFits t (s .args .numbers .now)) (ports t) (l .k) inside (sym judged ∙ not-false _ (c .if2 .left)))
 
--- src/testing.rt:93:1
 returns-2 : tie.Need-returns-2 Inv-loop μ-loop
 returns-2 c =
     let s = c .before .before .before .before .before in

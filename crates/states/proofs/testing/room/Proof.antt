@@ -4,22 +4,16 @@ use Rattle.states.proofs.Judged.{room-sampling, room-queuing}
 use borrow.Author.Needs.{needs}
 use Rattle.states.proofs.testing.room.Statement.{statement}
 use Rattle.states.proofs.testing.room.Tie as tie
-use Rattle.states.proofs.testing.room.Reads as reads
-use Rattle.states.proofs.testing.room.Lts as lts
 
--- src/testing.rt:38:34
 enum-told : tie.Need-enum-told
 enum-told c = search needs
 
--- src/testing.rt:39:27
 enum-known-transfer : tie.Need-enum-known-transfer
 enum-known-transfer c = search needs
 
--- src/testing.rt:33:1
 returns : tie.Need-returns
 returns c = sym (room-sampling (c .before .before .args .row) (c .enum-told .given .0 .0) (c .enum-told .given .1))
 
--- src/testing.rt:33:1
 returns-2 : tie.Need-returns-2
 returns-2 c = sym (room-queuing (c .before .before .before .args .row) (c .before .transfer .given .0 .0) (c .before .transfer .given .1))
 
