@@ -1,0 +1,54 @@
+-- `kernel::lists::is_accepted` meets its contract: by the case of the verdict. Assumes nothing.
+use Prim.Native.Nat.{_+_, _*_, _/_, _%_, _≤_, _<_}
+use mathlib.Core.Path.{_≡_, refl, sym, _∙_, ap, subst}
+use mathlib.Core.Bool.{true, false}
+use native.Mathlib.Omega.{arith}
+use lib.ListN.{length, drop}
+use borrow.Author.Needs.{needs}
+use borrow.Author.Tests.{not-true, not-false, eq-eqb, ne-eqb}
+use Rattle.model.specs.Load.{isAccepted, accepts, loadOf}
+use Rattle.model.specs.Run.{answers, eventsOf, joined, listFault}
+use Rattle.model.proofs.Accepted.{accepted}
+use Rattle.tables.specs.Shown.{verdictOf}
+use Rattle.services.specs.Did.{shown}
+use Rattle.states.specs.Shown.{shownState, stateFits}
+use Rattle.steps.specs.Stepped.{clockOf}
+use Rattle.kernel.specs.Meets.{isSound, settledAs, ListMeets}
+use Rattle.kernel.proofs.Laws
+use borrow.Author.Needs.{needs}
+use Rattle.kernel.proofs.lists.is_accepted.Statement.{statement}
+use Rattle.kernel.proofs.lists.is_accepted.Tie as tie
+use Rattle.kernel.proofs.lists.is_accepted.Reads as reads
+use Rattle.kernel.proofs.lists.is_accepted.Lts as lts
+use Rattle.tables.proofs.judge.Reads as judge-reads
+
+-- src/lists.rt:31:9
+judge-requires : tie.Need-judge-requires
+judge-requires c κs = search needs
+
+-- src/lists.rt:33:30
+enum-told : tie.Need-enum-told
+enum-told c = search needs
+
+-- src/lists.rt:34:35
+enum-told-2 : tie.Need-enum-told-2
+enum-told-2 c = search needs
+
+-- src/lists.rt:28:1
+returns : tie.Need-returns
+unfolding accepts
+returns c =
+    let s = c .before .before .before .before in
+    let verdict = sym (c .before .before .judge .ensures) ∙ ap verdictOf (c .enum-told .given .1) in
+    sym (ap isAccepted verdict)
+
+-- src/lists.rt:28:1
+returns-2 : tie.Need-returns-2
+unfolding accepts
+returns-2 c =
+    let s = c .before .before .before .before in
+    let verdict = sym (c .before .before .judge .ensures) ∙ ap verdictOf (c .enum-told2 .given .1) in
+    sym (ap isAccepted verdict)
+
+pub is-accepted-spec : {M : Type 1} → statement M
+is-accepted-spec = tie.close (tie.spec judge-requires enum-told enum-told-2 returns returns-2)

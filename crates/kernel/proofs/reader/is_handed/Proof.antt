@@ -1,0 +1,90 @@
+-- `kernel::reader::is_handed` meets its contract: the tests in their order. Assumes nothing.
+use Prim.Native.Nat.{_+_, _*_, _/_, _%_, _≤_, _<_}
+use mathlib.Core.Path.{_≡_, refl, sym, _∙_, ap, subst}
+use mathlib.Core.Bool.{true, false}
+use native.Mathlib.Omega.{arith}
+use lib.ListN.{length, drop}
+use borrow.Author.Needs.{needs}
+use borrow.Author.Tests.{not-true, not-false, eq-eqb, ne-eqb}
+use Rattle.model.specs.Answers.{stretch, handed}
+use Rattle.model.specs.Load.{isAccepted, accepts, loadOf}
+use Rattle.model.specs.Run.{answers, eventsOf, joined, listFault}
+use Rattle.model.proofs.Accepted.{accepted}
+use Rattle.tables.specs.Shown.{verdictOf}
+use Rattle.services.specs.Did.{shown}
+use Rattle.states.specs.Shown.{shownState, stateFits}
+use Rattle.steps.specs.Stepped.{clockOf}
+use Rattle.kernel.specs.Meets.{isSound, settledAs, ListMeets}
+use Rattle.kernel.proofs.Laws
+use borrow.Author.Needs.{needs}
+use Rattle.kernel.proofs.reader.is_handed.Statement.{statement}
+use Rattle.kernel.proofs.reader.is_handed.Tie as tie
+use Rattle.kernel.proofs.reader.is_handed.Reads as reads
+use Rattle.kernel.proofs.reader.is_handed.Lts as lts
+use Rattle.tables.proofs.word32.Reads as word32-reads
+
+-- src/reader.rt:18:9
+returns : tie.Need-returns
+returns c =
+    let s = c .before .before in
+    let b = s .args .answers .now in
+    let n = s .args .number in
+    sym (Laws.torn b n (c .if1 .taken))
+
+-- src/reader.rt:21:9
+returns-2 : tie.Need-returns-2
+returns-2 c =
+    let s = c .before .before .before in
+    let b = s .args .answers .now in
+    let n = s .args .number in
+    sym (Laws.not-there b n (c .before .if1 .left) (c .if2 .taken))
+
+-- src/reader.rt:23:16
+mul-if3 : tie.Need-mul-if3
+mul-if3 c = search needs
+
+-- src/reader.rt:23:8
+shared-slice-read-if3 : tie.Need-shared-slice-read-if3
+shared-slice-read-if3 c = search needs
+
+-- src/reader.rt:24:9
+returns-3 : tie.Need-returns-3
+returns-3 c =
+    let s = c .before .before .before .before .before in
+    let b = s .args .answers .now in
+    let n = s .args .number in
+    sym (Laws.not-0 b n (c .before .before .before .if1 .left) (c .before .before .if2 .left) (c .if3 .taken))
+
+-- src/reader.rt:26:21
+mul-word32 : tie.Need-mul-word32
+mul-word32 c = search needs
+
+-- src/reader.rt:26:21
+add-word32 : tie.Need-add-word32
+add-word32 c = search needs
+
+-- src/reader.rt:26:5
+word32-requires : tie.Need-word32-requires
+word32-requires c κs = search needs
+
+-- src/reader.rt:14:1
+returns-4 : tie.Need-returns-4
+returns-4 c =
+    let s = c .before .before .before .before .before .before in
+    let b = s .args .answers .now in
+    let n = s .args .number in
+    rw (c .word32 .ensures) (sym (Laws.by-length b n (c .before .before .before .before .if1 .left) (c .before .before .before .if2 .left) (c .before .if3 .left)))
+
+pub is-handed-spec : {M : Type 1} → statement M
+is-handed-spec =
+    tie.close
+    (tie.spec
+    returns
+    returns-2
+    mul-if3
+    shared-slice-read-if3
+    returns-3
+    mul-word32
+    add-word32
+    word32-requires
+    returns-4)

@@ -1,0 +1,55 @@
+-- `kernel::run` meets its contract: 27, or the list carried out. Assumes nothing.
+use Prim.Native.Nat.{_+_, _*_, _/_, _%_, _≤_, _<_}
+use mathlib.Core.Path.{_≡_, refl, sym, _∙_, ap, subst}
+use mathlib.Core.Bool.{true, false}
+use native.Mathlib.Omega.{arith}
+use lib.ListN.{length, drop}
+use borrow.Author.Needs.{needs}
+use borrow.Author.Tests.{not-true, not-false, eq-eqb, ne-eqb}
+use Rattle.model.specs.Load.{isAccepted, accepts, loadOf}
+use Rattle.model.specs.Run.{answers, eventsOf, joined, listFault}
+use Rattle.model.proofs.Accepted.{accepted}
+use Rattle.tables.specs.Shown.{verdictOf}
+use Rattle.services.specs.Did.{shown}
+use Rattle.states.specs.Shown.{shownState, stateFits}
+use Rattle.steps.specs.Stepped.{clockOf}
+use Rattle.kernel.specs.Meets.{isSound, settledAs, ListMeets}
+use Rattle.kernel.proofs.Laws
+use borrow.Author.Needs.{needs}
+use Rattle.kernel.proofs.run.Statement.{statement}
+use Rattle.kernel.proofs.run.Tie as tie
+use Rattle.kernel.proofs.run.Reads as reads
+use Rattle.kernel.proofs.run.Lts as lts
+use Rattle.kernel.proofs.lists.carry_out.Reads as carry-out-reads
+
+-- src/lib.rt:54:9
+returns : tie.Need-returns
+returns c =
+    let s = c .before .before .before .before in
+    let t = s .args .t .now in
+    let st = s .args .state in
+    let es = s .args .events .now in
+    let b = s .args .answers .now in
+    subst (λ w. ListMeets (listFault w es b (isSound t st)) t st es b (record { refusal = 27; state = st }) b) (sym (ne-eqb (length es % 80) 0 (c .if1 .taken)))
+    (Laws.refuses (listFault false es b (isSound t st)) 27 t st es b (Laws.fault-27 es b (isSound t st)) (λ z. omega arith))
+
+-- src/lib.rt:56:5
+carry-out-requires : tie.Need-carry-out-requires
+carry-out-requires c κs = search needs
+
+-- src/lib.rt:50:1
+same-length : tie.Need-same-length
+same-length c = search needs
+
+-- src/lib.rt:50:1
+returns-2 : tie.Need-returns-2
+returns-2 c =
+    let s = c .before .before .before .before .before .before .before .before in
+    let t = s .args .t .now in
+    let st = s .args .state in
+    let es = s .args .events .now in
+    let b = s .args .answers .now in
+    subst (λ w. ListMeets (listFault w es b (isSound t st)) t st es b (c .before .before .carry-out .result) (c .before .before .carry-out .last .1 .1 .1 .0)) (sym (eq-eqb (length es % 80) 0 (c .before .before .before .before .if1 .left))) (c .before .before .carry-out .ensures)
+
+pub run-spec : {M : Type 1} → statement M
+run-spec = tie.close (tie.spec returns carry-out-requires same-length returns-2)

@@ -1,0 +1,67 @@
+// The public calls: load, the state test, step, run, and the reader of answers. None asks anything of its caller; each does its own checking, and
+// its contract is one predicate of specs/Meets.antt for every input. Everything below this crate is internal.
+ghost use Rattle.kernel.specs.Meets.{LoadMeets, TestMeets, RunMeets, StepMeets};
+
+mod lists;
+mod reader;
+
+pub use reader::place;
+pub use reader::read;
+use states::State;
+use tables::Verdict;
+
+// What a load gives: the verdict, and the state beside it.
+pub struct Loaded {
+    pub verdict: Verdict,
+    pub state: State,
+}
+
+// What a call on a list gives: 0 or the refusal (27, 28, 29), and the state.
+pub struct Ran {
+    pub refusal: u8,
+    pub state: State,
+}
+
+// The verdict on tables, with the state at load; a refused load gives zeros.
+pub fn load(t: &[u8]) -> Loaded
+    ensures { λ r. ⌜ LoadMeets (now (t .entry)) r ⌝ }
+{
+    let verdict = tables::judge(t);
+    match verdict {
+        Verdict::Accepted => Loaded {
+            verdict,
+            state: states::loaded(),
+        },
+        Verdict::Refused(_, _) => Loaded {
+            verdict,
+            state: states::zero(),
+        },
+    }
+}
+
+// Test 29: the tables are accepted, and the state's numbers are in their ranges.
+pub fn in_range(t: &[u8], state: State) -> bool
+    ensures { λ r. ⌜ TestMeets (now (t .entry)) state r ⌝ }
+{
+    lists::sound(t, state)
+}
+
+// A list of events, each 80 bytes, answered in order.
+pub fn run(t: &[u8], state: State, events: &[u8], answers: &mut [u8]) -> Ran
+    ensures { λ r. ⌜ RunMeets (now (t .entry)) state (now (events .entry)) (now (answers .entry)) r (now (answers .exit)) ⌝ }
+{
+    if events.len() % 80 != 0 {
+        return Ran { refusal: 27, state };
+    }
+    lists::carry_out(t, state, events, answers)
+}
+
+// One event of exactly 80 bytes.
+pub fn step(t: &[u8], state: State, event: &[u8], answers: &mut [u8]) -> Ran
+    ensures { λ r. ⌜ StepMeets (now (t .entry)) state (now (event .entry)) (now (answers .entry)) r (now (answers .exit)) ⌝ }
+{
+    if event.len() != 80 {
+        return Ran { refusal: 27, state };
+    }
+    lists::carry_out(t, state, event, answers)
+}
