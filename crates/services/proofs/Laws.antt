@@ -39,7 +39,7 @@ unfolding offer
 offer-room depth queue m h = rw (lt-leb depth (length queue) h)
 
 -- each message of a list that fits
-fits-at : (r : Row) (queue : List Message) → allIn (fits r) queue ≡ true → (i : ℕ) → i < length queue → fits r (getD queue i []) ≡ true
+pub fits-at : (r : Row) (queue : List Message) → allIn (fits r) queue ≡ true → (i : ℕ) → i < length queue → fits r (getD queue i []) ≡ true
 fits-at r [] h i l = absurd (omega arith)
 fits-at r (m ∷ queue) h zero l = both-left (fits r m) (allIn (fits r) queue) h
 fits-at r (m ∷ queue) h (suc i) l = fits-at r queue (both-right (fits r m) (allIn (fits r) queue) h) i (omega arith)
