@@ -3,10 +3,10 @@
 use Prim.Native.Nat.{ℕ, _+_, _/_, _%_, _≤_, _<_}
 use mathlib.Core.Path.{_≡_, refl, sym, _∙_, ap, subst}
 use mathlib.Core.Bool.{Bool, true, false, _&&_, not}
-use mathlib.Core.List.{List, [], _∷_}
+use mathlib.Core.List.{List, [], _∷_, _++_}
 use native.Mathlib.Omega.{arith}
 use lib.Dec.{eqb}
-use lib.ListN.{length, getD}
+use lib.ListN.{length, getD, drop}
 use borrow.Author.Tests.{eqb-true, not-false}
 use Rattle.model.specs.Words.{if_then_else_}
 use Rattle.model.specs.Tables.{Tables, row}
@@ -15,7 +15,7 @@ use Rattle.model.specs.Load.{accepts}
 use Rattle.model.specs.State.{Message, Port, fresh, port, inRange}
 use Rattle.model.specs.State as model
 use Rattle.model.specs.Events.{eventSize}
-use Rattle.model.specs.Run.{afterAll, eventsOf, listFault, ranOr, Reached}
+use Rattle.model.specs.Run.{answers, afterAll, eventsOf, joined, listFault, ranOr, Reached}
 use Rattle.model.specs.Run as Model
 use Rattle.model.proofs.Tests.{both, both-left, both-right, between-high, by-test}
 use Rattle.model.proofs.Accepted.{Accepted, accepted}
@@ -32,7 +32,7 @@ use Rattle.states.specs.Settled.{settledNumbers, settledBytes, Storable}
 use Rattle.states.proofs.Laws.{settled-shows, settled-indexed}
 use Rattle.states.proofs.Load.{load-shown, load-fits}
 use Rattle.kernel.specs.declared.Ran.{Ran}
-use Rattle.kernel.specs.Meets.{LoadMeets, isSound, settledAs, stateAfter, ListMeets}
+use Rattle.kernel.specs.Meets.{LoadMeets, isSound, settledAs, stateAfter, answersAfter, ListMeets}
 use Rattle.kernel.specs.Given.{Given, byLoad, byStep, byRun}
 
 -- a port in range can be stored
@@ -110,3 +110,51 @@ pub given-sound : (t : List ℕ) (st : State) → Given t st → isSound t st �
 given-sound t st (byLoad m ok) = load-sound t ok (m .state)
 given-sound t st (byStep {st = s} event buffer buffer' g m z) = subst (λ x. isSound t x ≡ true) (sym (left-by m z)) (list-sound t s (given-sound t s g) event)
 given-sound t st (byRun {st = s} events buffer buffer' g m z) = subst (λ x. isSound t x ≡ true) (sym (left-by m z)) (list-sound t s (given-sound t s g) events)
+
+-- the model's call on the list is not refused either
+sound-model : (t : Tables) (st : State) → isSound t st ≡ true → Model.isSound t (shownState t st) ≡ true
+unfolding isSound
+sound-model t st h =
+    both (both-left (accepts t) (stateFits t st) h)
+    (both-left (inRange t (shownState t st)) (indexed t (st .numbers)) (both-right (accepts t) (stateFits t st) h))
+
+-- what the model's call gives where its fault is 0
+ran-state : (fault : ℕ) (t : Tables) (s : model.State) (events buffer : List ℕ) → fault ≡ 0 → ranOr fault t s events buffer .state ≡ afterAll t s (eventsOf events)
+unfolding ranOr
+ran-state fault t s events buffer e = rw e
+
+ran-refusal : (fault : ℕ) (t : Tables) (s : model.State) (events buffer : List ℕ) → fault ≡ 0 → ranOr fault t s events buffer .refusal ≡ 0
+unfolding ranOr
+ran-refusal fault t s events buffer e = rw e
+
+-- the fault of the call is that of the model's
+module _ (t : Tables) (st : State) (sound : isSound t st ≡ true) (whole : Bool) (events buffer : List ℕ) where
+  same-fault : listFault whole events buffer (isSound t st) ≡ 0 → listFault whole events buffer (Model.isSound t (shownState t st)) ≡ 0
+  same-fault z = ap (listFault whole events buffer) (sound-model t st sound ∙ sym sound) ∙ z
+
+-- each state that the public calls give shows a state that the model reaches
+pub given-reached : (t : List ℕ) (st : State) → Given t st → Reached t (shownState t st)
+unfolding Model.run Model.step
+given-reached t st (byLoad m ok) = subst (Reached t) (sym (ap (shownState t) (load-state t ok (m .state)) ∙ load-shown t)) (Model.byLoad ok)
+given-reached t st (byStep {st = s} {r = r} event buffer buffer' g m z) =
+    let sound = given-sound t s g in
+    let fault = same-fault t s sound (eqb (length event) eventSize) event buffer (sym (m .refusal) ∙ z) in
+    subst (Reached t)
+    (ran-state _ t (shownState t s) event buffer fault ∙ sym (ap (shownState t) (left-by m z) ∙ list-shown t s sound event))
+    (Model.byStep event buffer (ran-refusal _ t (shownState t s) event buffer fault) (given-reached t s g))
+given-reached t st (byRun {st = s} {r = r} events buffer buffer' g m z) =
+    let sound = given-sound t s g in
+    let fault = same-fault t s sound (eqb (length events % eventSize) 0) events buffer (sym (m .refusal) ∙ z) in
+    subst (Reached t)
+    (ran-state _ t (shownState t s) events buffer fault ∙ sym (ap (shownState t) (left-by m z) ∙ list-shown t s sound events))
+    (Model.byRun events buffer (ran-refusal _ t (shownState t s) events buffer fault) (given-reached t s g))
+
+-- what a run that is not refused leaves, and what stands in its answers
+pub run-leaves : {t : List ℕ} {st : State} {events buffer : List ℕ} {r : Ran} {buffer' : List ℕ} {fault : ℕ} → isSound t st ≡ true → ListMeets fault t st events buffer r buffer' → r .refusal ≡ 0
+    → shownState t (r .state) ≡ afterAll t (shownState t st) (eventsOf events)
+run-leaves {t} {st} {events} sound m z = ap (shownState t) (left-by m z) ∙ list-shown t st sound events
+
+pub run-answers : {t : List ℕ} {st : State} {events buffer : List ℕ} {r : Ran} {buffer' : List ℕ} {fault : ℕ} → ListMeets fault t st events buffer r buffer' → r .refusal ≡ 0
+    → buffer' ≡ joined (answers t (shownState t st) (eventsOf events)) ++ drop (length events) buffer
+unfolding answersAfter
+run-answers {t} {st} {events} {buffer} m z = m .answered ∙ ap (λ f. answersAfter f t st events buffer) (sym (m .refusal) ∙ z)

@@ -1,6 +1,6 @@
 // A state put together: each port's numbers and messages laid into the arrays of a State, in settled form.
 ghost use mathlib.Core.Path.{_≡_};
-ghost use Prim.Native.Nat.{_+_, _<_, _≤_};
+ghost use Prim.Native.Nat.{_+_, _≤_};
 ghost use lib.ListN.{length};
 ghost use Rattle.stores.specs.Ring.{pasted};
 ghost use Rattle.states.specs.Settled.{Stored, PortLaid, PutTogether};
