@@ -9,7 +9,7 @@ use Rattle.states.specs.declared.State.{State}
 use Rattle.kernel.specs.declared.Loaded.{Loaded}
 use Rattle.kernel.specs.declared.Ran.{Ran}
 use Rattle.kernel.specs.declared.reader.Stretch.{Stretch}
-use Rattle.kernel.specs.Meets.{LoadMeets, TestMeets, ListMeets, RunMeets, StepMeets, StretchMeets}
+use Rattle.kernel.specs.Meets.{LoadMeets, TestMeets, ListMeets, RunMeets, StepMeets, StretchMeets, ReadMeets}
 
 pub load-unique : (t : List ℕ) (a b : Loaded) → LoadMeets t a → LoadMeets t b → a ≡ b
 load-unique t a b p q = λ i. record { verdict = Verdicts.verdict-unique (a .verdict) (b .verdict) (p .verdict ∙ sym (q .verdict)) i; state = (p .state ∙ sym (q .state)) i }
@@ -37,3 +37,6 @@ step-unique t st event buffer = list-unique _ t st event buffer
 
 pub place-unique : (b : List ℕ) (n : ℕ) (x y : Stretch) → StretchMeets b n x → StretchMeets b n y → x ≡ y
 place-unique b n x y p q = λ i. record { from = (p .from ∙ sym (q .from)) i; size = (p .size ∙ sym (q .size)) i }
+
+pub read-unique : (b : List ℕ) (n : ℕ) (x y : List ℕ) → ReadMeets b n x → ReadMeets b n y → x ≡ y
+read-unique b n x y p q = p ∙ sym q

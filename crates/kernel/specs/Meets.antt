@@ -75,6 +75,9 @@ pub record StretchMeets (b : List ℕ) (record' : ℕ) (r : Stretch) : Type 0 wh
   pub from : r .from ≡ stretch b record' .from
   pub size : r .size ≡ stretch b record' .size
 
+abbrev pub ReadMeets : List ℕ → ℕ → List ℕ → Type 0
+ReadMeets b record' r = r ≡ handed b record'
+
 -- a list of whole records carried out from a state in range
 pub record CarriedOut (t : List ℕ) (st : State) (events buffer : List ℕ) (r : State) (buffer' : List ℕ) : Type 0 where
   pub state : r ≡ settledAs st (afterAll t (shownState t st) (eventsOf events))

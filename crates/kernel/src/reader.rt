@@ -1,7 +1,7 @@
 // The reader: a message is handed out as the stretch of the lent answers where it stands.
 ghost use mathlib.Core.Path.{_≡_};
-ghost use Rattle.model.specs.Answers.{isHanded, handed};
-ghost use Rattle.kernel.specs.Meets.{StretchMeets};
+ghost use Rattle.model.specs.Answers.{isHanded};
+ghost use Rattle.kernel.specs.Meets.{StretchMeets, ReadMeets};
 use tables::word32;
 
 // Where a stretch of the answers starts, and its length.
@@ -41,7 +41,7 @@ pub fn place(answers: &[u8], number: usize) -> Stretch
 
 // The stretch itself, as a part of the caller's answers.
 pub fn read(answers: &[u8], number: usize) -> &[u8]
-    ensures { λ r. ⌜ now r ≡ handed (now (answers .entry)) number ⌝ }
+    ensures { λ r. ⌜ ReadMeets (now (answers .entry)) number (now r) ⌝ }
 {
     let found = place(answers, number);
     let from = found.from;
