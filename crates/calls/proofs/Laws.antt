@@ -6,17 +6,16 @@ use mathlib.Core.Bool.{Bool, true, false, _&&_}
 use mathlib.Core.List.{List}
 use native.Mathlib.Omega.{arith}
 use lib.Dec.{eqb}
-use lib.ListN.{length, getD, set}
+use lib.ListN.{getD, set}
 use borrow.Author.Tests.{le-leb, lt-leb, eq-eqb, ne-eqb, lt-ltb, le-ltb}
 use Rattle.model.specs.Words.{byte, between}
-use Rattle.model.specs.Tables.{Tables, records, windows, Row, rowAt, row}
+use Rattle.model.specs.Tables.{Tables, windows, Row, rowAt, row}
 use Rattle.model.specs.Tables.{ports as portCount}
 use Rattle.model.specs.State.{Clock, Port, State, modeOf, port, withPort, withQueue, fresh, isCreated}
 use Rattle.model.specs.Events.{Event, Call, need}
 use Rattle.model.specs.Services.{Reply, refuse, done, Served, refuses, serves, atPort, own, useOwn, serve, likeRow, made, lookUp, create, getId, setMode, withMode, unmade}
-use Rattle.model.specs.Step.{stateOf}
 use Rattle.model.specs.Answers.{nothingTold, toldId}
-use Rattle.model.proofs.Tests.{both-left, both-right, between-low, between-high}
+use Rattle.model.proofs.Tests.{both-left, between-low, between-high}
 use Rattle.model.proofs.Accepted.{Accepted, accepted}
 use Rattle.model.proofs.Rows.{RowRanges}
 use Rattle.model.proofs.Ranges.{PortRanged}
@@ -26,14 +25,14 @@ use Rattle.tables.specs.declared.PortRow.{PortRow}
 use Rattle.tables.specs.declared.Transfer.the-variants.{Sampling, Queuing}
 use Rattle.tables.proofs.Decoded as Decoded
 use Rattle.events.specs.declared.answers.Answer.{Answer}
-use Rattle.events.specs.Shown.{refusedAs, toldAs, replied}
-use Rattle.ports.specs.Held.{rowOf, blockOf, storeIn, portAt, portsOf, RowPut, PortPut}
+use Rattle.events.specs.Shown.{refusedAs, toldAs}
+use Rattle.ports.specs.Held.{rowOf, blockOf, storeIn, portAt, RowPut, PortPut}
 use Rattle.ports.proofs.Ports.{ports-at, ports-put, port-put, put-is, block-kept}
 use Rattle.ports.proofs.Rows.{row-again, row-is}
 use Rattle.stores.proofs.Laws.{queue-empty}
 use Rattle.services.specs.declared.Layout.{Layout}
-use Rattle.services.specs.Did.{Laid, Held, shown, Does}
-use Rattle.services.specs.Served.{Lent, Fits, Serves}
+use Rattle.services.specs.Did.{Held, shown, Does}
+use Rattle.services.specs.Served.{Fits, Serves}
 use Rattle.calls.specs.Called.{Rows, ownAt, periodOf}
 
 -- accepted tables: where the rows lie, and that there are few

@@ -1,9 +1,9 @@
 -- Of the states that the public calls give: none is refused 29, and each shows a state that the model reaches.
 -- Assumes nothing.
-use Prim.Native.Nat.{ℕ, _+_, _/_, _%_, _≤_, _<_}
-use mathlib.Core.Path.{_≡_, refl, sym, _∙_, ap, subst}
-use mathlib.Core.Bool.{Bool, true, false, _&&_, not}
-use mathlib.Core.List.{List, [], _∷_, _++_}
+use Prim.Native.Nat.{ℕ, _+_, _%_, _<_}
+use mathlib.Core.Path.{_≡_, sym, _∙_, ap, subst}
+use mathlib.Core.Bool.{Bool, true, _&&_, not}
+use mathlib.Core.List.{List, [], _++_}
 use native.Mathlib.Omega.{arith}
 use lib.Dec.{eqb}
 use lib.ListN.{length, getD, drop}
@@ -12,7 +12,7 @@ use Rattle.model.specs.Words.{if_then_else_}
 use Rattle.model.specs.Tables.{Tables, row}
 use Rattle.model.specs.Tables.{ports as portCount}
 use Rattle.model.specs.Load.{accepts}
-use Rattle.model.specs.State.{Message, Port, fresh, port, inRange}
+use Rattle.model.specs.State.{port, inRange}
 use Rattle.model.specs.State as model
 use Rattle.model.specs.Events.{eventSize}
 use Rattle.model.specs.Run.{answers, afterAll, eventsOf, joined, listFault, ranOr, Reached}
@@ -20,11 +20,9 @@ use Rattle.model.specs.Run as Model
 use Rattle.model.proofs.Tests.{both, both-left, both-right, between-high, by-test}
 use Rattle.model.proofs.Accepted.{Accepted, accepted}
 use Rattle.model.proofs.Lists.{events-sized}
-use Rattle.model.proofs.Ranges.{fits, PortRanged, Ranged, ranged, in-range}
+use Rattle.model.proofs.Ranges.{Ranged, ranged, in-range}
 use Rattle.model.proofs.Reached.{all-ranged}
-use Rattle.stores.specs.Ring.{Short}
 use Rattle.ports.specs.Held.{portsOf}
-use Rattle.services.specs.Did.{shown}
 use Rattle.services.proofs.Laws.{fits-at}
 use Rattle.states.specs.declared.State.{State}
 use Rattle.states.specs.Shown.{shownState, stateFits, indexed, atLoad, allZero}
@@ -32,7 +30,7 @@ use Rattle.states.specs.Settled.{settledNumbers, settledBytes, Storable}
 use Rattle.states.proofs.Laws.{settled-shows, settled-indexed}
 use Rattle.states.proofs.Load.{load-shown, load-fits}
 use Rattle.kernel.specs.declared.Ran.{Ran}
-use Rattle.kernel.specs.Meets.{LoadMeets, isSound, settledAs, stateAfter, answersAfter, ListMeets}
+use Rattle.kernel.specs.Meets.{isSound, settledAs, stateAfter, answersAfter, ListMeets}
 use Rattle.kernel.specs.Given.{Given, byLoad, byStep, byRun}
 
 -- a port in range can be stored

@@ -2,7 +2,7 @@
 -- Assumes nothing.
 use Prim.Native.Nat.{ℕ, _<_}
 use mathlib.Core.Path.{_≡_, refl, sym, _∙_, ap, ap₂}
-use mathlib.Core.Bool.{Bool, true, false}
+use mathlib.Core.Bool.{true}
 use mathlib.Core.List.{List, [], _∷_, _++_, append-assoc}
 use lib.Dec.{eqb}
 use lib.ListN.{length, take, drop}
@@ -12,7 +12,7 @@ use Rattle.model.specs.Tables.{Tables}
 use Rattle.model.specs.State as model
 use Rattle.model.specs.Events.{Event}
 use Rattle.model.specs.Step.{doer, answer, after}
-use Rattle.model.specs.Run.{answers, afterAll, eventsOf, joined}
+use Rattle.model.specs.Run.{answers, eventsOf, joined}
 use Rattle.model.specs.Walk.{isMember}
 use Rattle.model.specs.Flow.{holds, setOf, matteringTo, answersTo}
 use Rattle.model.proofs.Lists.{answer-length}

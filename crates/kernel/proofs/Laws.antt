@@ -1,37 +1,36 @@
 -- What the public calls' proofs lean on: the refusals of a list, a state that passes test 29, and the reader's tests.
 -- Assumes nothing.
 use Prim.Native.Nat.{ℕ, _+_, _*_, _/_, _%_, _≤_, _<_}
-use mathlib.Core.Path.{_≡_, refl, sym, _∙_, ap, subst}
-use mathlib.Core.Bool.{Bool, true, false, _&&_, not}
-use mathlib.Core.List.{List, [], _++_}
+use mathlib.Core.Path.{_≡_, refl, sym, _∙_, subst}
+use mathlib.Core.Bool.{Bool, true, false, _&&_}
+use mathlib.Core.List.{List}
 use native.Mathlib.Omega.{arith}
 use lib.Dec.{eqb, ltb, leb}
-use lib.ListN.{length, drop}
+use lib.ListN.{length}
 use borrow.Author.Tests.{eq-eqb, ne-eqb, lt-ltb, le-ltb, ltb-true, leb-true}
 use Rattle.model.specs.Words.{byte, word32}
 use Rattle.model.specs.Tables.{Tables, row}
 use Rattle.model.specs.Tables.{ports as portCount}
-use Rattle.model.specs.Load.{accepts, isAccepted, loadOf, accepted, refused}
+use Rattle.model.specs.Load.{accepts, accepted}
 use Rattle.model.specs.State.{inRange}
 use Rattle.model.specs.Answers.{isHanded, stretch}
-use Rattle.model.specs.Run.{answers, afterAll, eventsOf, joined, listFault}
+use Rattle.model.specs.Run.{eventsOf, listFault}
 use Rattle.model.proofs.Tests.{both-left, both-right}
 use Rattle.model.proofs.Accepted as Accepted
-use Rattle.model.proofs.Ranges.{PortRanged, Ranged, ranged}
+use Rattle.model.proofs.Ranges.{PortRanged, ranged}
 use Rattle.tables.specs.Shown.{decoded}
 use Rattle.events.specs.declared.clock.Clock.{Clock}
 use Rattle.stores.specs.Ring.{Sized}
-use Rattle.ports.specs.Held.{storeAt, portAt}
+use Rattle.ports.specs.Held.{storeAt}
 use Rattle.ports.proofs.Ports.{ports-at}
 use Rattle.services.specs.declared.Layout.{Layout}
-use Rattle.services.specs.Did.{Laid, Held, shown}
+use Rattle.services.specs.Did.{Laid}
 use Rattle.services.proofs.Laws.{sized-of}
 use Rattle.calls.proofs.Laws.{fits-of}
 use Rattle.states.specs.declared.State.{State}
 use Rattle.states.specs.Shown.{shownState, stateFits, indexed}
-use Rattle.steps.specs.Stepped.{clockOf, Ready}
-use Rattle.kernel.specs.declared.Ran.{Ran}
-use Rattle.kernel.specs.Meets.{isSound, stateAfter, answersAfter, settledAs, ListMeets, CarriedOut}
+use Rattle.steps.specs.Stepped.{Ready}
+use Rattle.kernel.specs.Meets.{isSound, stateAfter, answersAfter, ListMeets, CarriedOut}
 
 -- the refusals of a list
 fault-28 : (events buffer : List ℕ) (s : Bool) → length buffer < length events → listFault true events buffer s ≡ 28

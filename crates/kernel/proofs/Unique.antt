@@ -1,7 +1,7 @@
 -- Any two outcomes that meet the contract of a public call, for the same input, are equal: result, state and every lent byte.
 -- Assumes nothing.
 use Prim.Native.Nat.{ℕ}
-use mathlib.Core.Path.{_≡_, refl, sym, _∙_, ap}
+use mathlib.Core.Path.{_≡_, sym, _∙_}
 use mathlib.Core.Bool.{Bool}
 use mathlib.Core.List.{List}
 use Rattle.tables.proofs.Unique as Verdicts

@@ -12,7 +12,7 @@ use Rattle.model.specs.Load.{accepts}
 use Rattle.model.specs.State.{Message, Port, State, fresh}
 use Rattle.model.specs.Events.{Event, eventSize}
 use Rattle.model.specs.Step.{after}
-use Rattle.model.specs.Run.{Ran, step}
+use Rattle.model.specs.Run.{step}
 use Rattle.model.proofs.Computing.{computing}
 use Rattle.model.proofs.Laid.{windowRow, portRow, channelRow, event, answerRow}
 

@@ -1,14 +1,14 @@
 -- Of accepted tables: how many channels there are, and what their ends are.
 -- Assumes nothing.
 use Prim.Native.Nat.{ℕ, suc, _+_, _-_, _≤_, _<_}
-use mathlib.Core.Path.{_≡_, refl, sym, _∙_, subst}
-use mathlib.Core.Bool.{Bool, true, false, _&&_, _||_, not}
-use mathlib.Core.Logic.{_⊎_, inl, inr, ⊎-elim}
+use mathlib.Core.Path.{_≡_, sym, _∙_, subst}
+use mathlib.Core.Bool.{Bool, true, false, _&&_, not}
+use mathlib.Core.Logic.{_⊎_, ⊎-elim}
 use native.Mathlib.Omega.{arith}
 use lib.Dec.{leb, eqb}
 use borrow.Author.Tests.{leb-true, leb-false, eqb-true, eqb-false, not-false, not-true, ne-eqb}
 use Rattle.model.specs.Words.{if_then_else_, between, any, all, blank}
-use Rattle.model.specs.Tables.{Tables, records, portsEnd, ports, channels, start, Row, row, source, destination, destinationsAt, endAt, channelRecord, sourcePort, destinations, destinationPort}
+use Rattle.model.specs.Tables.{Tables, records, portsEnd, ports, channels, start, row, source, destination, destinationsAt, endAt, channelRecord, sourcePort, destinations, destinationPort}
 use Rattle.model.specs.Load.{accepts, channelFits, fieldFault, countFault, endFault, channelEndsFit, endFits, countFits, namedBefore, namedAmong, ends, idRow}
 use Rattle.model.proofs.Tests.{both-left, both-right, neither-left, neither-right, between-low, between-high, three}
 use Rattle.model.proofs.Bounded.{all-at, any-at}

@@ -1,17 +1,17 @@
 -- Lists of events: the run of two lists joined is run after run, for lists of records and for their bytes; answers are records of 80 bytes.
 -- Assumes nothing.
 use Prim.Native.Nat.{ℕ, zero, suc, _+_, _*_, _/_, _%_, _≤_}
-use mathlib.Core.Path.{_≡_, refl, sym, _∙_, ap, subst}
+use mathlib.Core.Path.{_≡_, refl, sym, _∙_, ap}
 use mathlib.Core.List.{List, [], _∷_, _++_, append-assoc}
 use native.Mathlib.Nat.{zero-add, suc-add}
 use native.Mathlib.Omega.{arith}
-use lib.ListN.{length, take, drop, replicate, length-append, length-take, length-drop, length-replicate}
+use lib.ListN.{length, take, drop, length-append, length-drop, length-replicate}
 use lib.Seq.{take-append-le, drop-append-le, length-take-le}
-use Rattle.model.specs.Words.{cut, bytes16, bytes32, zeros, filled}
+use Rattle.model.specs.Words.{cut, zeros, filled}
 use Rattle.model.specs.Tables.{Tables}
 use Rattle.model.specs.State.{State}
 use Rattle.model.specs.Events.{Event, eventSize}
-use Rattle.model.specs.Answers.{refusal, told, Told}
+use Rattle.model.specs.Answers.{refusal, told}
 use Rattle.model.specs.Services.{Reply, refuse, done}
 use Rattle.model.specs.Step.{answer, after, answerOf, reply, doer}
 use Rattle.model.specs.Run.{answers, afterAll, eventsOf, joined}

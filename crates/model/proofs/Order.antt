@@ -1,17 +1,16 @@
 -- Of accepted tables: no record has a fault, and the records are windows, then ports, then channels, as their numbers say.
 -- Assumes nothing.
 use Prim.Native.Nat.{ℕ, zero, suc, _+_, _-_, _≤_, _<_}
-use mathlib.Core.Path.{_≡_, refl, sym, _∙_, subst, ap}
-use mathlib.Core.Bool.{Bool, true, false, _&&_, _||_, not, true≢false}
-use mathlib.Core.Logic.{⊎-elim}
+use mathlib.Core.Path.{_≡_, refl, sym, subst}
+use mathlib.Core.Bool.{Bool, true, false, _&&_, not, true≢false}
 use native.Mathlib.Nat.{add-zero, le-refl}
 use native.Mathlib.Omega.{arith}
-use lib.Dec.{leb, ltb, eqb}
-use borrow.Author.Tests.{ltb-false, eqb-true, eqb-false, not-true, not-false, le-leb, lt-ltb, eq-eqb}
+use lib.Dec.{ltb, eqb}
+use borrow.Author.Tests.{ltb-false, eqb-true, eqb-false, not-true, not-false, lt-ltb}
 use Rattle.model.specs.Words.{if_then_else_, between, first}
 use Rattle.model.specs.Tables.{Tables, records, kind, windows, portsEnd, ports, channels}
 use Rattle.model.specs.Load.{lengthFault, kindFault, countFault, fieldFault, nameFault, endFault, fault, firstFault, refused, accepted, isAccepted, loadOf, accepts}
-use Rattle.model.proofs.Tests.{both-left, both-right, neither-left, neither-right, between-low, between-high}
+use Rattle.model.proofs.Tests.{neither-left, neither-right, between-low, between-high}
 use Rattle.model.proofs.Bounded.{first-from, first-to, first-none, first-is}
 
 -- no fault of any kind at a record

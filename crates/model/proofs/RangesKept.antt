@@ -1,23 +1,22 @@
 -- The services keep a state in range: each leaves its port in range, and so do a mode change, a clock step and a move.
 -- Assumes nothing.
 use Prim.Native.Nat.{ℕ, zero, suc, _+_, _-_, _≤_, _<_}
-use mathlib.Core.Path.{_≡_, refl, sym, _∙_, subst, ap}
-use mathlib.Core.Bool.{Bool, true, false, _&&_, _||_, not, or-true}
+use mathlib.Core.Path.{_≡_, refl, sym, _∙_, ap}
+use mathlib.Core.Bool.{Bool, true, false, _&&_, _||_, not}
 use mathlib.Core.List.{List, [], _∷_, _++_}
-use mathlib.Core.Logic.{⊎-elim}
-use native.Mathlib.Nat.{zero-add, add-zero, add-suc, suc-add}
+use native.Mathlib.Nat.{add-zero, add-suc, suc-add}
 use native.Mathlib.Omega.{arith}
 use lib.Dec.{leb, ltb, eqb, eqb·suc-zero}
-use lib.ListN.{length, getD, set, take, drop, length-append, length-set, length-drop}
-use lib.Seq.{length-take-le, getD-set-same, getD-set-other}
-use borrow.Author.Tests.{leb-true, leb-false, le-leb, ltb-true, ltb-false, eqb-true, eqb-false, eq-eqb}
-use Rattle.model.specs.Words.{if_then_else_, between, allIn, first}
-use Rattle.model.specs.Tables.{Tables, windows, windowLength, Row, row, room, sampling, sourcePort, destinations, destinationPort}
+use lib.ListN.{length, getD, set, drop, length-append, length-set, length-drop}
+use lib.Seq.{length-take-le}
+use borrow.Author.Tests.{leb-false, le-leb, ltb-true, ltb-false, eqb-false}
+use Rattle.model.specs.Words.{if_then_else_, between, allIn}
+use Rattle.model.specs.Tables.{Tables, windows, Row, row, room, sampling, sourcePort, destinations, destinationPort}
 use Rattle.model.specs.Tables.{ports as portCount, channels as channelCount}
-use Rattle.model.specs.State.{Message, Clock, Port, State, fresh, partitions, normal, shortest, port, modeOf, withPort, withQueue, isCreated, tick, full, offer, valid}
+use Rattle.model.specs.State.{Message, Port, State, fresh, normal, port, modeOf, withQueue, isCreated, tick, full, offer, valid}
 use Rattle.model.specs.Events.{Event, eventSize, Call, need, messageOf}
-use Rattle.model.specs.Services.{Reply, refuse, done, Served, refuses, serves, atPort, directed, stored, made, put, mark, readOldest, takeOldest, get, cleared, status, serve, likeRow}
-use Rattle.model.specs.Services.{own, useOwn, isNamed, lookUp, create, getId, unmade, withMode, setMode, service, schedule, arrived, delivered, transmitOldest, transmit}
+use Rattle.model.specs.Services.{Reply, refuse, done, Served, refuses, serves, atPort, directed, stored, made, put, mark, readOldest, takeOldest, get, cleared, serve, likeRow}
+use Rattle.model.specs.Services.{own, useOwn, lookUp, create, getId, unmade, withMode, setMode, service, schedule, arrived, delivered, transmitOldest, transmit}
 use Rattle.model.proofs.Tests.{both-left, both-right, both, is-between, between-low, between-high, by-test}
 use Rattle.model.proofs.Ranges.{fits, PortRanged, Ranged, with-port-ranged}
 use Rattle.model.proofs.Accepted.{Accepted}

@@ -1,26 +1,24 @@
 -- No reached state gets 29: what load, step and run give is in range.
 -- Assumes nothing.
-use Prim.Native.Nat.{ℕ, _<_, _%_}
-use mathlib.Core.Path.{_≡_, refl, sym, _∙_, subst, ap}
-use mathlib.Core.Bool.{Bool, true, false, _&&_, not}
+use Prim.Native.Nat.{ℕ}
+use mathlib.Core.Path.{_≡_, refl}
+use mathlib.Core.Bool.{true}
 use mathlib.Core.List.{List, [], _∷_}
-use native.Mathlib.Omega.{arith}
 use lib.Dec.{ltb, eqb}
-use lib.ListN.{length, getD, replicate, length-replicate, getD-replicate}
-use borrow.Author.Tests.{ltb-true, eqb-true}
-use Rattle.model.specs.Words.{if_then_else_}
+use lib.ListN.{length, length-replicate, getD-replicate}
+use borrow.Author.Tests.{ltb-true}
 use Rattle.model.specs.Tables.{Tables, windowPartition, mover, channels}
 use Rattle.model.specs.Load.{accepts}
-use Rattle.model.specs.State.{State, fresh, loaded, inRange}
+use Rattle.model.specs.State.{State, fresh, loaded}
 use Rattle.model.specs.Events.{Event, eventSize, Asked, clockStep, call, move, unknown, decode}
 use Rattle.model.specs.Services.{Reply, refuse, done}
 use Rattle.model.specs.Step.{turnIn, turn, replyIn, reply, stateOf, after}
-use Rattle.model.specs.Run.{afterAll, eventsOf, isSound, listFault, ranOr, Ran, Reached, byLoad, byStep, byRun}
+use Rattle.model.specs.Run.{afterAll, eventsOf, isSound, ranOr, Ran, Reached, byLoad, byStep, byRun}
 use Rattle.model.specs.Run as Run
 use Rattle.model.proofs.Tests.{both, by-test}
 use Rattle.model.proofs.Accepted.{Accepted, accepted}
 use Rattle.model.proofs.Lists.{Sized, none, one, events-sized}
-use Rattle.model.proofs.Ranges.{PortRanged, Ranged, ranged, in-range}
+use Rattle.model.proofs.Ranges.{Ranged, in-range}
 use Rattle.model.proofs.RangesKept.{Fine, fresh-ranged, service-fine, schedule-fine, transmit-fine}
 
 module _ (t : Tables) (good : Accepted t) where

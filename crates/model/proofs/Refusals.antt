@@ -1,6 +1,5 @@
 -- Demand 1 of the model's step: an event not answered 0 changes no state, and its answer record is code, doer and zeros.
 -- Assumes nothing.
-use Prim.Native.Nat.{ℕ}
 use mathlib.Core.Path.{_≡_, refl}
 use mathlib.Core.List.{_∷_}
 use Rattle.model.specs.Words.{byte, zeros}
@@ -9,7 +8,7 @@ use Rattle.model.specs.State.{State}
 use Rattle.model.specs.Events.{Event}
 use Rattle.model.specs.Answers.{refusal, told}
 use Rattle.model.specs.Services.{Reply, refuse, done}
-use Rattle.model.specs.Step.{answerOf, stateOf, reply, doer, answer, after}
+use Rattle.model.specs.Step.{reply, doer, answer, after}
 
 -- what holds of an event that is not answered 0
 pub record Refused (t : Tables) (s : State) (e : Event) : Type 0 where

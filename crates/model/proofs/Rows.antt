@@ -1,7 +1,7 @@
 -- Of accepted tables: how many windows and ports there are, and the ranges of their rows.
 -- Assumes nothing.
-use Prim.Native.Nat.{ℕ, suc, _+_, _-_, _≤_, _<_}
-use mathlib.Core.Path.{_≡_, refl, sym}
+use Prim.Native.Nat.{ℕ, _+_, _-_, _≤_, _<_}
+use mathlib.Core.Path.{_≡_, refl}
 use mathlib.Core.Bool.{Bool, true, false, _&&_, _||_, not, true≢false}
 use mathlib.Core.Logic.{_⊎_, inl, inr, ⊎-elim}
 use native.Mathlib.Nat.{eq-or-lt-of-le}
@@ -9,7 +9,7 @@ use native.Mathlib.Omega.{arith}
 use lib.Dec.{leb, eqb}
 use borrow.Author.Tests.{leb-true, leb-false, eqb-true, not-false, eq-eqb}
 use Rattle.model.specs.Words.{if_then_else_, between, any, blank}
-use Rattle.model.specs.Tables.{Tables, records, windows, ports, portsEnd, mover, windowPartition, windowLength, start, Row, rowAt, row, room, portRecord, nameStart, sameName, sampling, queuing, source, destination}
+use Rattle.model.specs.Tables.{Tables, windows, ports, portsEnd, mover, windowPartition, windowLength, start, Row, row, room, portRecord, nameStart, sameName, sampling, queuing, source, destination}
 use Rattle.model.specs.Load.{accepts, windowFits, rowFits, portFits, fieldFault, countFault, nameFault, portNameFault, sameOwnerAndName, nameFits}
 use Rattle.model.proofs.Tests.{both-left, both-right, neither-right, between-low, between-high}
 use Rattle.model.proofs.Bounded.{any-at}

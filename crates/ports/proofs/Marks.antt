@@ -1,14 +1,13 @@
 -- One number of a port's row set: which field of the port that is.
 -- Assumes nothing.
-use Prim.Native.Nat.{ℕ, _+_, _-_, _%_, _<_}
-use mathlib.Core.Path.{_≡_, refl, sym, _∙_, ap}
+use Prim.Native.Nat.{ℕ, _-_}
+use mathlib.Core.Path.{refl, ap}
 use mathlib.Core.List.{List, []}
-use lib.ListN.{getD, set}
-use Rattle.model.specs.State.{Port, fresh, withQueue}
+use lib.ListN.{set}
+use Rattle.model.specs.State.{withQueue}
 use Rattle.stores.specs.Ring.{queueOf, dropped}
-use Rattle.stores.specs.declared.Store.{Store}
 use Rattle.stores.proofs.Laws.{queue-empty}
-use Rattle.ports.specs.Held.{rowOf, blockOf, storeIn, storeAt, portIn, portAt, RowPut, PortPut}
+use Rattle.ports.specs.Held.{rowOf, blockOf, storeIn, storeAt, portAt, RowPut, PortPut}
 use Rattle.ports.proofs.Rows.{row-again, row-is}
 use Rattle.ports.proofs.Ports.{port-put, block-kept, put-is}
 

@@ -1,10 +1,10 @@
 -- Laws of ports in the lent arrays: one port put, and the list of ports after it.
 -- Assumes nothing.
-use Prim.Native.Nat.{ℕ, zero, suc, _+_, _*_, _≤_, _<_}
-use mathlib.Core.Path.{_≡_, refl, sym, _∙_, ap, ap₂, subst}
+use Prim.Native.Nat.{ℕ, zero, suc, _+_, _*_, _<_}
+use mathlib.Core.Path.{_≡_, refl, sym, _∙_, ap, ap₂}
 use mathlib.Core.Bool.{Bool, true, false}
-use mathlib.Core.List.{List, [], _∷_, _++_, append-nil}
-use native.Mathlib.Nat.{zero-add, add-zero, add-suc, suc-add}
+use mathlib.Core.List.{List, append-nil}
+use native.Mathlib.Nat.{zero-add, add-zero}
 use native.Mathlib.Omega.{arith}
 use lib.Dec.{eqb}
 use lib.ListN.{length, getD, take, drop, set, length-set, length-drop}
@@ -14,7 +14,7 @@ use Rattle.model.specs.State.{Port, fresh, withQueue}
 use Rattle.stores.specs.Ring.{queueOf}
 use Rattle.stores.proofs.Laws.{queue-length}
 use Rattle.stores.specs.declared.Store.{Store}
-use Rattle.ports.specs.Held.{rowOf, blockOf, storeIn, storeAt, portIn, portAt, portsFrom, portsOf, RowPut, BlockPut, PortPut}
+use Rattle.ports.specs.Held.{rowOf, blockOf, storeAt, portIn, portAt, portsFrom, portsOf, RowPut, BlockPut, PortPut}
 
 module _ (numbers bytes : List ℕ) where
   from-length : (n k : ℕ) → length (portsFrom numbers bytes n k) ≡ n

@@ -1,16 +1,16 @@
 -- Laws of the rows and blocks of the lent arrays: what stands in one after a number or a block is stored.
 -- Assumes nothing.
 use Prim.Native.Nat.{ℕ, zero, suc, _+_, _-_, _*_, _≤_, _<_}
-use mathlib.Core.Path.{_≡_, refl, sym, _∙_, ap, ap₂, subst}
+use mathlib.Core.Path.{_≡_, refl, sym, _∙_, ap, ap₂}
 use mathlib.Core.List.{List, [], _∷_, _++_, append-assoc}
 use mathlib.Core.Logic.{_⊎_, inl, inr, ⊎-elim}
 use native.Mathlib.Nat.{add-zero}
 use native.Mathlib.Omega.{arith}
-use lib.ListN.{length, getD, take, drop, set, length-append, length-take, length-drop, List·getD-append}
+use lib.ListN.{length, getD, take, drop, set, length-take, length-drop, List·getD-append}
 use native.Mathlib.Numerals.{add-one}
 use lib.Seq.{getD-set-same, getD-set-other, ext-getD, getD-take, getD-drop, take-suc, take-suc-set, paste, paste-suc, length-paste, length-paste-head, drop-paste, drop-at, take-at, take-all, length-take-le}
 use Rattle.model.proofs.Tests.{three}
-use Rattle.ports.specs.Held.{numbersFrom, rowSize, rowOf, blockSize, blockOf, RowPut, BlockPut}
+use Rattle.ports.specs.Held.{numbersFrom, rowOf, blockOf, RowPut, BlockPut}
 
 pub numbers-at : (numbers : List ℕ) (n at j : ℕ) → j < n → getD (numbersFrom numbers n at) j 0 ≡ getD numbers (at + j) 0
 numbers-at numbers zero at j h = absurd (omega arith)

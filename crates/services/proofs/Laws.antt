@@ -1,8 +1,8 @@
 -- What the services' proofs lean on: a message offered, stored, and the store of a port that is in range.
 -- Assumes nothing.
-use Prim.Native.Nat.{ℕ, zero, suc, _+_, _%_, _≤_, _<_}
-use mathlib.Core.Path.{_≡_, refl, sym, _∙_, ap, subst}
-use mathlib.Core.Bool.{Bool, true, false}
+use Prim.Native.Nat.{ℕ, zero, suc, _+_, _≤_, _<_}
+use mathlib.Core.Path.{_≡_, refl, sym, _∙_, ap}
+use mathlib.Core.Bool.{true}
 use mathlib.Core.List.{List, [], _∷_, _++_}
 use native.Mathlib.Omega.{arith}
 use lib.ListN.{length, getD, take, drop, length-take}
@@ -10,10 +10,10 @@ use borrow.Author.Tests.{le-leb, lt-leb}
 use lib.Dec.{eqb}
 use Rattle.model.specs.Words.{if_then_else_, allIn}
 use Rattle.model.specs.Tables.{Row, room}
-use Rattle.model.specs.State.{Message, Port, offer, withQueue}
+use Rattle.model.specs.State.{Message, Port, offer}
 use Rattle.model.specs.Events.{messageOf}
 use Rattle.model.proofs.Tests.{both-left, both-right, between-high}
-use Rattle.model.proofs.Ranges.{fits, PortRanged}
+use Rattle.model.proofs.Ranges.{fits}
 use Rattle.model.proofs.Rows.{RowRanges}
 use Rattle.tables.specs.Shown.{rowOf}
 use Rattle.model.specs.Services.{stored, status}
@@ -25,8 +25,8 @@ use Rattle.stores.specs.declared.Letter.{Letter}
 use Rattle.stores.specs.Ring.{Sized, queueOf, slotOf, written, letterOf, appended, dropped, noMessages}
 use Rattle.stores.proofs.Laws.{queue-length, queue-at, message-length, queue-appended, queue-none, queue-empty, queue-dropped, written-letter}
 use Rattle.ports.specs.Held
-use Rattle.ports.specs.Held.{storeAt, portAt, PortPut}
-use Rattle.ports.proofs.Ports.{store-queue, store-count, store-lengths, store-bytes, count-is, put-is, put-kept}
+use Rattle.ports.specs.Held.{storeAt, portAt}
+use Rattle.ports.proofs.Ports.{store-queue, store-count, store-lengths, store-bytes}
 use Rattle.services.specs.Served.{Lent, Fits}
 
 -- a full store loses the message, and one with room takes it

@@ -2,28 +2,24 @@
 -- Assumes nothing.
 use Prim.Native.Nat.{ℕ, suc, _+_, _≤_, _<_}
 use mathlib.Core.Path.{_≡_, refl, sym, _∙_, ap, ap₂, subst}
-use mathlib.Core.Bool.{Bool, true, false}
+use mathlib.Core.Bool.{Bool, true}
 use mathlib.Core.List.{List}
 use mathlib.Core.Logic.{⊎-elim}
-use native.Mathlib.Omega.{arith}
 use lib.Dec.{eqb}
-use lib.ListN.{length}
 use borrow.Author.Tests.{eq-eqb, ne-eqb, lt-ltb, le-ltb}
 use Rattle.model.specs.Words.{byte}
 use Rattle.model.specs.Tables.{Tables, windows, channels, windowPartition, windowLength}
-use Rattle.model.specs.Tables.{ports as portCount}
-use Rattle.model.specs.State.{State, tick, port}
+use Rattle.model.specs.State.{State, tick}
 use Rattle.model.specs.State as model
-use Rattle.model.specs.Events.{Event, Call, Asked, unknown, clockStep, call, move, decode, known, need, callOf}
-use Rattle.model.specs.Services.{Reply, refuse, done, service, schedule, transmit}
-use Rattle.model.specs.Step.{turnIn, turn, doerIn, doer, replyIn, reply, stateOf, after}
+use Rattle.model.specs.Events.{Event, Call, Asked, unknown, clockStep, call, move, decode, known, need}
+use Rattle.model.specs.Services.{Reply, refuse, service, schedule, transmit}
+use Rattle.model.specs.Step.{turnIn, turn, doer, replyIn, reply, stateOf, after}
 use Rattle.model.proofs.Tests.{by-test}
 use Rattle.model.specs.Answers.{toldNumber}
-use Rattle.model.proofs.Accepted.{Accepted, accepted}
-use Rattle.model.proofs.Ranges.{Ranged}
+use Rattle.model.proofs.Accepted.{Accepted}
 use Rattle.events.specs.declared.answers.Answer.{Answer}
 use Rattle.events.specs.Shown.{replied, toldAs}
-use Rattle.services.specs.Did.{Held, shown, Does}
+use Rattle.services.specs.Did.{shown, Does}
 
 -- an event's doer and reply
 pub record At (t : Tables) (s : State) (e : Event) (d : ℕ) (x : Reply) : Type 0 where

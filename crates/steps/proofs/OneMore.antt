@@ -1,9 +1,8 @@
 -- A list of events one record at a time: the records so far, their answers, and a state that is ready for the next.
 -- Assumes nothing.
-use Prim.Native.Nat.{ℕ, zero, suc, _+_, _*_, _/_, _≤_, _<_}
+use Prim.Native.Nat.{ℕ, zero, suc, _+_, _*_, _≤_}
 use mathlib.Core.Path.{_≡_, refl, sym, _∙_, ap, ap₂, subst}
 use mathlib.Core.List.{List, [], _∷_, _++_, append-assoc, append-nil}
-use native.Mathlib.Nat.{zero-add, add-zero}
 use native.Mathlib.Numerals.{add-one}
 use native.Mathlib.Omega.{arith}
 use lib.ListN.{length, take, drop, length-append, length-drop}
@@ -12,7 +11,7 @@ use Rattle.model.specs.Words.{cut}
 use Rattle.model.specs.Tables.{Tables}
 use Rattle.model.specs.Tables.{ports as portCount}
 use Rattle.model.specs.State.{State}
-use Rattle.model.specs.Events.{Event, eventSize}
+use Rattle.model.specs.Events.{Event}
 use Rattle.model.specs.Step.{answer, after}
 use Rattle.model.specs.Run.{answers, afterAll, joined}
 use Rattle.model.proofs.Accepted.{accepted}
@@ -20,10 +19,8 @@ use Rattle.model.proofs.Lists.{after-append, answers-append, joined-append, ans
 use Rattle.model.proofs.Ranges.{Ranged, PortRanged}
 use Rattle.model.proofs.Reached.{after-ranged}
 use Rattle.events.specs.declared.clock.Clock.{Clock}
-use Rattle.events.specs.declared.answers.Answer.{Answer}
 use Rattle.services.specs.declared.Layout.{Layout}
-use Rattle.services.specs.Did.{Laid, Held, shown}
-use Rattle.ports.specs.Held.{portAt}
+use Rattle.services.specs.Did.{Held, shown}
 use Rattle.ports.proofs.Ports.{ports-at}
 use Rattle.steps.specs.Stepped.{clockOf, Ready, LeavesAt, RunsTo}
 

@@ -8,7 +8,7 @@ use native.Mathlib.Nat.{zero-add}
 use native.Mathlib.Numerals.{add-one}
 use native.Mathlib.Omega.{arith}
 use lib.Dec.{ltb}
-use lib.ListN.{length, getD, take, set, length-append, length-map, length-drop, drop}
+use lib.ListN.{length, getD, take, set, length-append, length-map, drop}
 use lib.Seq.{length-take-le, take-length, take-suc}
 use borrow.Author.Tests.{ltb-true, ltb-false}
 use Rattle.model.specs.Words.{filled}

@@ -1,5 +1,5 @@
 -- `ports::take_lengths` meets its contract: after i turns the first i lengths are the row's. Assumes nothing.
-use Prim.Native.Nat.{_*_, _-_, _≤_, _<_}
+use Prim.Native.Nat.{_-_, _≤_, _<_}
 use mathlib.Core.Path.{_≡_, refl, sym, _∙_}
 use native.Mathlib.Omega.{arith}
 use lib.ListN.{length, take, drop, length-set, length-drop}

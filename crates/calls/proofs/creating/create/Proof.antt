@@ -1,29 +1,22 @@
 -- `calls::creating::create` meets its contract: the port that the look-up finds, made. Assumes nothing.
-use Prim.Native.Nat.{suc, _+_, _*_, _-_, _≤_, _<_}
-use mathlib.Core.Path.{_≡_, refl, sym, _∙_, ap, ap₂, subst}
+use Prim.Native.Nat.{suc, _+_, _-_, _<_}
+use mathlib.Core.Path.{_≡_, sym, _∙_, ap, ap₂, subst}
 use native.Mathlib.Omega.{arith}
-use borrow.Author.Tests.{not-true, not-false, eq-eqb, ne-eqb}
-use lib.Dec.{eqb}
 use lib.ListN.{getD}
-use Rattle.model.specs.Words.{byte}
-use Rattle.model.specs.Tables.{windows, row}
+use Rattle.model.specs.Tables.{row}
 use Rattle.model.specs.Tables.{ports as portCount}
 use Rattle.model.specs.Events.{need}
-use Rattle.model.specs.Services.{useOwn, atPort, serve, refuse, likeRow}
 use Rattle.model.proofs.Accepted.{accepted}
 use Rattle.tables.specs.Shown as Shown
 use Rattle.events.specs.Shown.{callOf}
 use Rattle.ports.specs.Held.{rowOf, portAt}
 use Rattle.services.specs.Did.{Does, shown}
 use Rattle.services.specs.Served.{Serves}
-use Rattle.services.proofs.Cases.{refuse-as, serve-as}
 use Rattle.calls.proofs.Laws
 use native.Mathlib.Numerals.{add-one}
 use Rattle.model.specs.Tables.{rowAt}
 use Rattle.model.specs.State.{port, modeOf}
-use Rattle.model.specs.Answers.{toldId}
 use Rattle.model.specs.Services.{lookUp, made}
-use Rattle.events.specs.Shown.{toldAs}
 use borrow.Author.Needs.{needs}
 use Rattle.calls.proofs.creating.create.Statement.{statement}
 use Rattle.calls.proofs.creating.create.Tie as tie

@@ -1,21 +1,11 @@
 -- `calls::creating::make` meets its contract: the tests in their order. Assumes nothing.
-use Prim.Native.Nat.{_+_, _*_, _-_, _≤_, _<_}
-use mathlib.Core.Path.{_≡_, refl, sym, _∙_, ap, subst}
-use native.Mathlib.Omega.{arith}
-use borrow.Author.Tests.{not-true, not-false, eq-eqb, ne-eqb}
-use lib.Dec.{eqb}
-use lib.ListN.{getD}
-use Rattle.model.specs.Words.{byte}
-use Rattle.model.specs.Tables.{windows, row}
-use Rattle.model.specs.Tables.{ports as portCount}
-use Rattle.model.specs.Events.{need}
-use Rattle.model.specs.Services.{useOwn, atPort, serve, refuse, likeRow}
-use Rattle.model.proofs.Accepted.{accepted}
+use Prim.Native.Nat.{_+_, _-_}
+use mathlib.Core.Path.{sym, _∙_}
+use borrow.Author.Tests.{not-true, not-false}
+use Rattle.model.specs.Tables.{row}
 use Rattle.tables.specs.Shown as Shown
 use Rattle.events.specs.Shown.{callOf}
 use Rattle.ports.specs.Held.{rowOf, portAt}
-use Rattle.services.specs.Did.{Does, shown}
-use Rattle.services.specs.Served.{Serves}
 use Rattle.services.proofs.Cases.{refuse-as, serve-as}
 use Rattle.calls.proofs.Laws
 use Rattle.ports.proofs.Marks.{put-created}

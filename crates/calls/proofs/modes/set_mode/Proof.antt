@@ -1,24 +1,14 @@
 -- `calls::modes::set_mode` meets its contract: the tests in their order, then the mode and the sweep. Assumes nothing.
-use Prim.Native.Nat.{_+_, _*_, _-_, _≤_, _<_}
-use mathlib.Core.Path.{_≡_, refl, sym, _∙_, ap, subst}
-use native.Mathlib.Omega.{arith}
-use borrow.Author.Tests.{not-true, not-false, eq-eqb, ne-eqb}
+use Prim.Native.Nat.{_-_}
+use mathlib.Core.Path.{_≡_, refl, ap}
+use borrow.Author.Tests.{ne-eqb}
 use lib.Dec.{eqb}
 use lib.ListN.{getD, set}
-use Rattle.model.specs.Words.{byte}
-use Rattle.model.specs.Tables.{windows, row}
-use Rattle.model.specs.Tables.{ports as portCount}
-use Rattle.model.specs.Events.{need}
 use Rattle.model.specs.Answers.{nothingTold}
 use mathlib.Core.Logic.{⊎-elim}
 use mathlib.Core.Bool.{false, _&&_, and-false}
-use Rattle.model.proofs.Accepted.{accepted}
 use Rattle.tables.specs.Shown as Shown
-use Rattle.events.specs.Shown.{callOf}
-use Rattle.ports.specs.Held.{rowOf, portAt}
-use Rattle.services.specs.Did.{Does, shown}
-use Rattle.services.specs.Served.{Serves}
-use Rattle.services.proofs.Cases.{refuse-as, serve-as}
+use Rattle.services.specs.Did.{shown}
 use Rattle.calls.proofs.Laws
 use borrow.Author.Needs.{needs}
 use Rattle.calls.proofs.modes.set_mode.Statement.{statement}

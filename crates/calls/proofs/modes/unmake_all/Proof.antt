@@ -1,11 +1,11 @@
 -- `calls::modes::unmake_all` meets its contract: after k turns the first k rows are swept. Assumes nothing.
-use Prim.Native.Nat.{_+_, _*_, _-_, _≤_, _<_}
+use Prim.Native.Nat.{_+_, _-_, _≤_, _<_}
 use mathlib.Core.Path.{_≡_, refl, sym, _∙_, ap, subst}
 use mathlib.Core.Logic.{⊎-elim}
 use native.Mathlib.Omega.{arith}
 use lib.ListN.{length}
 use borrow.Author.Needs.{needs}
-use Rattle.model.specs.Tables.{ports, row, rowAt}
+use Rattle.model.specs.Tables.{ports, rowAt}
 use Rattle.calls.proofs.Sweep.{Swept, swept-none, swept-taken, swept-kept, swept-all}
 use Rattle.calls.proofs.modes.unmake_all.Statement.{statement}
 use Rattle.calls.proofs.modes.unmake_all.Tie as tie

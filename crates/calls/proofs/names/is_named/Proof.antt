@@ -1,12 +1,6 @@
 -- `calls::names::is_named` meets its contract: the tests in their order. Assumes nothing.
-use Prim.Native.Nat.{_+_, _*_, _-_, _≤_, _<_}
-use mathlib.Core.Path.{_≡_, refl, sym, _∙_, ap}
-use mathlib.Core.Bool.{true, false}
-use native.Mathlib.Omega.{arith}
-use Rattle.model.specs.Words.{first}
-use Rattle.model.specs.Tables.{ports}
-use Rattle.model.specs.Services.{isNamed, lookUp}
-use Rattle.model.proofs.Searches.{first-more, first-stop, first-end}
+use Prim.Native.Nat.{_-_}
+use mathlib.Core.Path.{sym, _∙_}
 use Rattle.calls.proofs.LookUp.{not-owner, not-mode, by-name}
 use borrow.Author.Needs.{needs}
 use Rattle.calls.proofs.names.is_named.Statement.{statement}

@@ -1,14 +1,12 @@
 -- `calls::names::look_up` meets its contract: the whole search is what is left of it. Assumes nothing.
-use Prim.Native.Nat.{_+_, _*_, _-_, _≤_, _<_}
-use mathlib.Core.Path.{_≡_, refl, sym, _∙_, ap}
-use mathlib.Core.Bool.{true, false}
+use Prim.Native.Nat.{_-_, _≤_, _<_}
+use mathlib.Core.Path.{_≡_, sym, _∙_, ap}
 use native.Mathlib.Omega.{arith}
 use borrow.Author.Needs.{needs}
 use Rattle.model.specs.Words.{first}
 use Rattle.model.specs.Tables.{ports}
 use Rattle.model.specs.Services.{isNamed, lookUp}
 use Rattle.model.proofs.Searches.{first-more, first-stop, first-end}
-use Rattle.calls.proofs.LookUp.{not-owner, not-mode, by-name}
 use Rattle.calls.proofs.names.look_up.Statement.{statement}
 use Rattle.calls.proofs.names.look_up.Tie as tie
 use Rattle.calls.proofs.names.look_up.Reads as reads

@@ -1,23 +1,17 @@
 -- `calls::owning::use_own` meets its contract: the port-level service, raised to the state. Assumes nothing.
-use Prim.Native.Nat.{_+_, _*_, _-_, _≤_, _<_}
-use mathlib.Core.Path.{_≡_, refl, sym, _∙_, ap, ap₂, subst}
+use Prim.Native.Nat.{_+_, _-_}
+use mathlib.Core.Path.{_≡_, sym, _∙_, ap, ap₂, subst}
 use native.Mathlib.Omega.{arith}
-use borrow.Author.Tests.{not-true, not-false, eq-eqb, ne-eqb}
-use lib.Dec.{eqb}
-use lib.ListN.{getD}
-use Rattle.model.specs.Words.{byte}
-use Rattle.model.specs.Tables.{windows, rowAt, row}
-use Rattle.model.specs.Tables.{ports as portCount}
+use borrow.Author.Tests.{not-true, not-false}
+use Rattle.model.specs.Tables.{rowAt, row}
 use Rattle.model.specs.State.{port}
-use Rattle.model.specs.Events.{need}
-use Rattle.model.specs.Services.{useOwn, atPort, serve, refuse, likeRow}
+use Rattle.model.specs.Services.{serve}
 use Rattle.model.proofs.Accepted.{accepted}
 use Rattle.tables.specs.Shown as Shown
 use Rattle.events.specs.Shown.{callOf}
 use Rattle.ports.specs.Held.{rowOf, portAt}
 use Rattle.services.specs.Did.{Does, shown}
 use Rattle.services.specs.Served.{Serves}
-use Rattle.services.proofs.Cases.{refuse-as, serve-as}
 use Rattle.calls.proofs.Laws
 use borrow.Author.Needs.{needs}
 use Rattle.calls.proofs.owning.use_own.Statement.{statement}

@@ -2,7 +2,6 @@
 use mathlib.Core.Path.{_∙_, ap}
 use mathlib.Core.List.{_++_}
 use lib.ListN.{take}
-use lib.Seq.{take-at}
 use Rattle.events.specs.Shown.{headBytes, answerBytes}
 use borrow.Author.Needs.{needs}
 use Rattle.events.proofs.answers.lay_answer.Statement.{statement}

@@ -1,7 +1,6 @@
 -- `events::answers::refusal` meets its contract. Assumes nothing.
 use mathlib.Core.Path.{refl}
-use borrow.Author.Needs.{needs}
-use Rattle.events.specs.Shown.{refusedAs, toldAs}
+use Rattle.events.specs.Shown.{refusedAs}
 use Rattle.events.proofs.answers.refusal.Statement.{statement}
 use Rattle.events.proofs.answers.refusal.Tie as tie
 use Rattle.events.proofs.answers.refusal.Reads as reads

@@ -1,6 +1,5 @@
 -- `events::codes::is_known` meets its contract. Assumes nothing.
 use borrow.Author.Tests.{le-leb, lt-leb}
-use borrow.Author.Needs.{needs}
 use Rattle.events.proofs.codes.is_known.Statement.{statement}
 use Rattle.events.proofs.codes.is_known.Tie as tie
 use Rattle.events.proofs.codes.is_known.Reads as reads

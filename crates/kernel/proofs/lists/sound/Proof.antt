@@ -1,19 +1,7 @@
 -- `kernel::lists::sound` meets its contract: tables first, then the state. Assumes nothing.
-use Prim.Native.Nat.{_+_, _*_, _/_, _%_, _≤_, _<_}
-use mathlib.Core.Path.{_≡_, refl, sym, _∙_, ap, subst}
-use mathlib.Core.Bool.{true, false}
-use native.Mathlib.Omega.{arith}
-use lib.ListN.{length, drop}
+use mathlib.Core.Path.{sym, _∙_}
 use borrow.Author.Needs.{needs}
-use borrow.Author.Tests.{not-true, not-false, eq-eqb, ne-eqb}
-use Rattle.model.specs.Load.{isAccepted, accepts, loadOf}
-use Rattle.model.specs.Run.{answers, eventsOf, joined, listFault}
-use Rattle.model.proofs.Accepted.{accepted}
-use Rattle.tables.specs.Shown.{verdictOf}
-use Rattle.services.specs.Did.{shown}
-use Rattle.states.specs.Shown.{shownState, stateFits}
-use Rattle.steps.specs.Stepped.{clockOf}
-use Rattle.kernel.specs.Meets.{isSound, settledAs, ListMeets}
+use borrow.Author.Tests.{not-true, not-false}
 use Rattle.kernel.proofs.Laws
 use borrow.Author.Needs.{needs}
 use Rattle.kernel.proofs.lists.sound.Statement.{statement}

@@ -1,20 +1,11 @@
 -- `kernel::reader::read` meets its contract: the stretch, which lies within the answers. Assumes nothing.
-use Prim.Native.Nat.{_+_, _-_, _*_, _/_, _%_, _^_, _≤_, _<_}
-use mathlib.Core.Path.{_≡_, refl, sym, _∙_, ap, ap₂, subst}
-use mathlib.Core.Bool.{true, false}
+use Prim.Native.Nat.{_+_, _-_, _^_, _<_}
+use mathlib.Core.Path.{_≡_, _∙_, ap₂}
 use native.Mathlib.Omega.{arith}
 use lib.ListN.{length, take, drop}
 use borrow.Author.Needs.{needs}
-use borrow.Author.Tests.{not-true, not-false, eq-eqb, ne-eqb}
-use Rattle.model.specs.Answers.{stretch, handed}
-use Rattle.model.specs.Load.{isAccepted, accepts, loadOf}
-use Rattle.model.specs.Run.{answers, eventsOf, joined, listFault}
-use Rattle.model.proofs.Accepted.{accepted}
-use Rattle.tables.specs.Shown.{verdictOf}
-use Rattle.services.specs.Did.{shown}
-use Rattle.states.specs.Shown.{shownState, stateFits}
-use Rattle.steps.specs.Stepped.{clockOf}
-use Rattle.kernel.specs.Meets.{isSound, settledAs, ListMeets}
+use Rattle.model.specs.Answers.{handed}
+use Rattle.model.specs.Run.{answers}
 use Rattle.kernel.proofs.Laws
 use borrow.Author.Needs.{needs}
 use Rattle.kernel.proofs.reader.read.Statement.{statement}

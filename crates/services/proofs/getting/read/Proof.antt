@@ -1,25 +1,21 @@
 -- `services::getting::read` meets its contract: 1 where the port is empty, else the message and its validity. Assumes nothing.
 use Prim.Native.Nat.{_≤_, _<_}
-use mathlib.Core.Path.{_≡_, refl, sym, _∙_, ap, subst}
-use native.Mathlib.Omega.{arith}
+use mathlib.Core.Path.{_≡_, sym, _∙_, ap, subst}
 use lib.ListN.{length, getD, set}
-use borrow.Author.Tests.{not-true, not-false}
-use Rattle.model.specs.State.{withQueue, valid}
+use Rattle.model.specs.State.{valid}
 use Rattle.model.specs.Answers.{toldMessage}
 use Rattle.model.specs.Services.{mark}
-use Rattle.tables.specs.Shown.{rowOf, refreshOf}
-use Rattle.events.specs.Shown.{callOf, toldAs}
+use Rattle.tables.specs.Shown.{rowOf}
+use Rattle.events.specs.Shown.{toldAs}
 use Rattle.stores.specs.declared.Store.{Store}
-use Rattle.stores.specs.declared.Letter.{Letter}
-use Rattle.stores.specs.Ring.{queueOf, slotOf, dropped, oldestOf, letterOf}
+use Rattle.stores.specs.Ring.{slotOf, oldestOf}
 use Rattle.stores.proofs.Laws.{oldest-head}
 use Rattle.ports.specs.Held
 use Rattle.ports.specs.Held.{storeAt, portAt}
 use Rattle.ports.proofs.Rows.{row-is}
-use Rattle.ports.proofs.Ports.{put-is, count-is, store-queue}
-use Rattle.ports.proofs.Marks.{put-validity, put-none, put-dropped}
-use Rattle.services.specs.Served.{Serves}
-use Rattle.services.proofs.Laws.{sized-of, some-count, rest-is, validity-is, arrival-is}
+use Rattle.ports.proofs.Ports.{count-is, store-queue}
+use Rattle.ports.proofs.Marks.{put-validity}
+use Rattle.services.proofs.Laws.{sized-of, some-count, arrival-is}
 use Rattle.services.proofs.Cases
 use Rattle.services.proofs.Cases.{refuse-as, serve-as, some-message, no-message}
 use borrow.Author.Needs.{needs}

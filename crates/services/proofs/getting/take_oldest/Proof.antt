@@ -1,27 +1,19 @@
 -- `services::getting::take_oldest` meets its contract: the letter of the oldest message, and the store without it. Assumes nothing.
 use Prim.Native.Nat.{_≤_, _<_}
-use mathlib.Core.Path.{_≡_, refl, sym, _∙_, ap, subst}
-use native.Mathlib.Omega.{arith}
-use lib.ListN.{length, getD, set}
-use borrow.Author.Tests.{not-true, not-false}
-use Rattle.model.specs.State.{withQueue, valid}
-use Rattle.model.specs.Answers.{toldMessage}
-use Rattle.model.specs.Services.{mark}
-use Rattle.tables.specs.Shown.{rowOf, refreshOf}
-use Rattle.events.specs.Shown.{callOf, toldAs}
+use mathlib.Core.Path.{sym, _∙_, ap, subst}
+use lib.ListN.{getD, set}
+use Rattle.model.specs.State.{withQueue}
+use Rattle.tables.specs.Shown.{rowOf}
 use Rattle.stores.specs.declared.Store.{Store}
-use Rattle.stores.specs.declared.Letter.{Letter}
-use Rattle.stores.specs.Ring.{queueOf, slotOf, dropped, oldestOf, letterOf}
+use Rattle.stores.specs.Ring.{slotOf, dropped, oldestOf}
 use Rattle.stores.proofs.Laws.{oldest-head}
 use Rattle.ports.specs.Held
 use Rattle.ports.specs.Held.{storeAt, portAt}
 use Rattle.ports.proofs.Rows.{row-is}
-use Rattle.ports.proofs.Ports.{put-is, count-is, store-queue}
-use Rattle.ports.proofs.Marks.{put-validity, put-none, put-dropped}
-use Rattle.services.specs.Served.{Serves}
-use Rattle.services.proofs.Laws.{sized-of, some-count, rest-is, validity-is, arrival-is}
+use Rattle.ports.proofs.Ports.{put-is, store-queue}
+use Rattle.ports.proofs.Marks.{put-dropped}
+use Rattle.services.proofs.Laws.{sized-of, some-count, rest-is}
 use Rattle.services.proofs.Cases
-use Rattle.services.proofs.Cases.{refuse-as, serve-as, some-message, no-message}
 use borrow.Author.Needs.{needs}
 use Rattle.services.proofs.getting.take_oldest.Statement.{statement}
 use Rattle.services.proofs.getting.take_oldest.Tie as tie

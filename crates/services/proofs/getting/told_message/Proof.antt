@@ -1,6 +1,5 @@
 -- `services::getting::told_message` meets its contract. Assumes nothing.
 use mathlib.Core.Path.{ap}
-use borrow.Author.Needs.{needs}
 use Rattle.services.proofs.Laws.{handing}
 use Rattle.events.specs.Shown.{toldAs}
 use Rattle.services.proofs.getting.told_message.Statement.{statement}

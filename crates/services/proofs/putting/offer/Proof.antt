@@ -7,7 +7,7 @@ use Rattle.model.specs.State.{withQueue}
 use Rattle.stores.specs.Ring.{queueOf, appended, written}
 use Rattle.ports.specs.Held.{portAt}
 use Rattle.ports.proofs.Ports.{put-is, put-kept, count-is, store-count}
-use Rattle.services.proofs.Laws.{offer-full, offer-room, taken, alone}
+use Rattle.services.proofs.Laws.{offer-full, offer-room, taken}
 use borrow.Author.Needs.{needs}
 use Rattle.services.proofs.putting.offer.Statement.{statement}
 use Rattle.services.proofs.putting.offer.Tie as tie

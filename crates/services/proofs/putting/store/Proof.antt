@@ -1,5 +1,5 @@
 -- `services::putting::store` meets its contract, by the case of the row. Assumes nothing.
-use Prim.Native.Nat.{_≤_, _<_}
+use Prim.Native.Nat.{_<_}
 use mathlib.Core.Path.{_≡_, sym, _∙_, ap, subst}
 use native.Mathlib.Omega.{arith}
 use lib.ListN.{length}
@@ -7,7 +7,7 @@ use Rattle.model.specs.State.{withQueue}
 use Rattle.stores.specs.declared.Store.{Store}
 use Rattle.stores.specs.Ring.{queueOf, appended, written, noMessages}
 use Rattle.ports.specs.Held.{portAt}
-use Rattle.ports.proofs.Ports.{put-is, put-kept, count-is, store-count}
+use Rattle.ports.proofs.Ports.{put-is}
 use Rattle.services.proofs.Laws.{alone, stored-sampling, stored-queuing, depth-few}
 use borrow.Author.Needs.{needs}
 use Rattle.services.proofs.putting.store.Statement.{statement}

@@ -1,6 +1,5 @@
 -- `services::telling::count_told` meets its contract. Assumes nothing.
 use borrow.Author.Tests.{eq-eqb, ne-eqb}
-use borrow.Author.Needs.{needs}
 use Rattle.services.proofs.telling.count_told.Statement.{statement}
 use Rattle.services.proofs.telling.count_told.Tie as tie
 use Rattle.services.proofs.telling.count_told.Reads as reads

@@ -1,7 +1,5 @@
 -- `services::telling::status` meets its contract, by the case of the row. Assumes nothing.
-use mathlib.Core.Path.{_≡_, refl, sym, _∙_, ap}
 use native.Mathlib.Omega.{arith}
-use lib.ListN.{length, getD}
 use Rattle.model.specs.Services.{status}
 use Rattle.events.specs.Shown.{toldAs}
 use Rattle.ports.specs.Held.{portAt}

@@ -1,16 +1,10 @@
 -- `steps::runs::run_events` meets its contract: after i turns the first i events are run. Assumes nothing.
-use Prim.Native.Nat.{_+_, _*_, _-_, _/_, _^_, _≤_, _<_}
-use mathlib.Core.Path.{_≡_, refl, sym, _∙_, ap, ap₂, subst}
-use mathlib.Core.List.{_++_}
+use Prim.Native.Nat.{_-_, _/_, _^_, _≤_, _<_}
+use mathlib.Core.Path.{_≡_, refl, _∙_, subst}
 use native.Mathlib.Omega.{arith}
-use lib.ListN.{length, take, drop}
+use lib.ListN.{length}
 use borrow.Author.Needs.{needs}
-use borrow.Rule.Slice.PartMut.{post-is}
-use Rattle.model.specs.Step.{answer, doer, reply}
-use Rattle.events.specs.Shown.{answerBytes}
-use Rattle.services.specs.Did.{shown}
-use Rattle.steps.specs.Stepped.{clockOf, Answers, RunsTo}
-use Rattle.steps.proofs.Bytes.{bytes-replied}
+use Rattle.steps.specs.Stepped.{RunsTo}
 use Rattle.steps.proofs.OneMore.{none-yet, one-more}
 use Rattle.steps.proofs.runs.run_events.Statement.{statement}
 use Rattle.steps.proofs.runs.run_events.Tie as tie

@@ -1,17 +1,16 @@
 -- `steps::runs::turn_at` meets its contract: the turn, and its answer laid in record i. Assumes nothing.
-use Prim.Native.Nat.{_+_, _*_, _-_, _/_, _≤_, _<_}
-use mathlib.Core.Path.{_≡_, refl, sym, _∙_, ap, ap₂, subst}
+use Prim.Native.Nat.{_+_, _*_, _-_}
+use mathlib.Core.Path.{_≡_, _∙_, ap, ap₂, subst}
 use mathlib.Core.List.{_++_}
 use native.Mathlib.Omega.{arith}
-use lib.ListN.{length, take, drop}
+use lib.ListN.{take, drop}
 use borrow.Author.Needs.{needs}
 use borrow.Rule.Slice.PartMut.{post-is}
 use Rattle.model.specs.Step.{answer, doer, reply}
 use Rattle.events.specs.Shown.{answerBytes}
 use Rattle.services.specs.Did.{shown}
-use Rattle.steps.specs.Stepped.{clockOf, Answers, RunsTo}
+use Rattle.steps.specs.Stepped.{clockOf, Answers}
 use Rattle.steps.proofs.Bytes.{bytes-replied}
-use Rattle.steps.proofs.OneMore.{none-yet, one-more}
 use borrow.Author.Needs.{needs}
 use Rattle.steps.proofs.runs.turn_at.Statement.{statement}
 use Rattle.steps.proofs.runs.turn_at.Tie as tie

@@ -1,18 +1,11 @@
 -- `steps::turns::move_turn` meets its contract: nobody in a partition's window or where there is no such channel, else the channel. Assumes nothing.
-use Prim.Native.Nat.{suc, _+_, _≤_, _<_}
-use mathlib.Core.Path.{_≡_, refl, sym, _∙_, ap, subst}
+use mathlib.Core.Path.{refl, sym, _∙_}
 use native.Mathlib.Omega.{arith}
-use native.Mathlib.Numerals.{add-one}
-use lib.ListN.{length}
 use borrow.Author.Needs.{needs}
-use Rattle.model.specs.Tables.{windows, windowPartition, windowLength, records}
-use Rattle.model.specs.State.{wrap}
 use Rattle.model.specs.State as model
-use Rattle.model.specs.Services.{refuse}
 use Rattle.model.specs.Events as events
 use Rattle.model.proofs.Accepted.{accepted}
-use Rattle.events.specs.Shown.{callOf, refusedAs}
-use Rattle.services.specs.Did.{shown, Does}
+use Rattle.services.specs.Did.{shown}
 use Rattle.calls.proofs.Laws.{refused-does}
 use Rattle.steps.specs.Stepped.{clockOf}
 use Rattle.steps.proofs.Laws
