@@ -8,7 +8,7 @@ pub use records::line;
 pub use records::lines;
 pub use refusals::events_refused;
 pub use refusals::tables_refused;
-ghost use Prim.Native.Nat.{_/_, _%_};
+ghost use Prim.Native.Nat.{_/_, _%_, _≤_};
 ghost use mathlib.Core.Path.{_≡_};
 ghost use Rattle.lines.specs.Text.{loadedLength};
 
@@ -42,7 +42,7 @@ pub fn split(length: usize) -> Parts
 // How many bytes of a tables.bin of this length are loaded. The empty file stands for every over-long one whose length is no multiple of 48:
 // both are refused 20 at record 0.
 pub fn loaded_length(length: usize) -> usize
-    ensures { λ r. ⌜ r ≡ loadedLength length ⌝ }
+    ensures { λ r. ⌜ (r ≡ loadedLength length) × (r ≤ 7728) ⌝ }
 {
     if length <= MOST_TABLES {
         return length;

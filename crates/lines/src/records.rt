@@ -4,8 +4,11 @@ ghost use mathlib.Core.Path.{_≡_};
 ghost use lib.ListN.{length, take, drop};
 ghost use Rattle.lines.specs.Text.{who as whoOf, what as whatOf, how as howOf, showsMessage, message as messageOf, line as lineOf, lines as linesOf};
 ghost use Rattle.lines.specs.Wrote.{Wrote};
-use super::digits::{field, hex, letter};
-use tables::{word16, word32};
+use super::digits::field;
+use super::digits::hex;
+use super::digits::letter;
+use tables::word16;
+use tables::word32;
 
 fn wide(x: u8) -> u64
     ensures { λ r. ⌜ r ≡ x ⌝ }
@@ -93,7 +96,13 @@ fn line_at(first: u64, events: &[u8], answers: &[u8], i: usize, at: usize, out: 
 {
     let start = 80 * i;
     let end = start + 80;
-    line(first + i as u64, &events[start..end], &answers[start..end], at, out)
+    line(
+        first + i as u64,
+        &events[start..end],
+        &answers[start..end],
+        at,
+        out,
+    )
 }
 
 // The lines of a list's whole records, from the start of `out` on.

@@ -3,7 +3,8 @@ ghost use Prim.Native.Nat.{_+_, _≤_};
 ghost use lib.ListN.{length};
 ghost use Rattle.lines.specs.Text.{tablesRefused, eventsRefused};
 ghost use Rattle.lines.specs.Wrote.{Wrote};
-use super::digits::{decimal, letter};
+use super::digits::decimal;
+use super::digits::letter;
 
 // The bytes of a text.
 fn copy(text: &[u8], at: usize, out: &mut [u8]) -> usize
