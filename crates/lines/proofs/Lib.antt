@@ -1,0 +1,2 @@
+-- What the proofs of the runner's text share.
+pub mod Laws

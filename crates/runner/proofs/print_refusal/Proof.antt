@@ -1,0 +1,39 @@
+-- `runner::print_refusal` is safe: the text lies within its array. Assumes nothing.
+use mathlib.Core.Path.{sym}
+use lib.Seq.{length-take-le}
+use borrow.Author.Needs.{needs}
+use Rattle.runner.proofs.print_refusal.Statement.{statement}
+use Rattle.runner.proofs.print_refusal.Tie as tie
+use Rattle.runner.proofs.print_refusal.Reads as reads
+use Rattle.runner.proofs.print_refusal.Lts as lts
+use Rattle.io.proofs.write_all.Reads as write-all-reads
+use Rattle.lines.proofs.tables_refused.Reads as tables-refused-reads
+
+slice-aggregate-tables-refused : tie.Need-slice-aggregate-tables-refused
+slice-aggregate-tables-refused c = search needs
+
+tables-refused-requires : tie.Need-tables-refused-requires
+tables-refused-requires c κs = search needs
+
+array-share-prefix-text : tie.Need-array-share-prefix-text
+array-share-prefix-text c = search needs
+
+slice-aggregate-write-all : tie.Need-slice-aggregate-write-all
+slice-aggregate-write-all c = sym (length-take-le _ _ (search needs))
+
+write-all-requires : tie.Need-write-all-requires
+write-all-requires c κs = search needs
+
+returns : tie.Need-returns
+returns c = search needs
+
+pub print-refusal-spec : {M : Type 1} → statement M
+print-refusal-spec =
+    tie.close
+    (tie.spec
+    slice-aggregate-tables-refused
+    tables-refused-requires
+    array-share-prefix-text
+    slice-aggregate-write-all
+    write-all-requires
+    returns)

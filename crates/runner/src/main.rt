@@ -1,0 +1,130 @@
+// The runner: 01, "The runner". It reads tables.bin in the current folder and events on standard input, and prints a line for each event. Only
+// reading and writing stand here: the kernel answers, and the crate `lines` has the text.
+ghost use Prim.Native.Nat.{_+_, _*_, _^_, _≤_, _<_};
+ghost use lib.ListN.{length};
+use libc::STDIN_FILENO;
+use libc::STDOUT_FILENO;
+use states::State;
+use tables::Verdict;
+
+// What a turn leaves: the state, and whether there may be more events.
+struct Turned {
+    state: State,
+    more: bool,
+}
+
+// Reads on in a file, and answers how many bytes came.
+fn skip_some(fd: i32) -> usize
+    ensures { λ r. ⌜ r ≤ 65536 ⌝ }
+{
+    let mut buffer = [0u8; 65_536];
+    io::read_full(fd, &mut buffer)
+}
+
+// How many bytes are left in a file. A proved loop has to end, and nothing says that a file does: it counts its turns.
+fn rest(fd: i32) -> usize
+    ensures { λ r. ⌜ r ≤ 2 ^ 63 ⌝ }
+{
+    let mut length: usize = 0;
+    let mut turns: usize = 0;
+    while turns < 0x4000_0000_0000 {
+        let more = skip_some(fd);
+        if more == 0 {
+            return length;
+        }
+        length += more;
+        turns += 1;
+    }
+    length
+}
+
+// Reads the start of tables.bin, and answers the file's length, or 0 where it is missing.
+fn read_tables(t: &mut [u8]) -> usize
+    requires { ⌜ length (now t) ≤ 7728 ⌝ }
+{
+    let fd = os::open_read(b"tables.bin");
+    if fd < 0 {
+        return 0;
+    }
+    let start = io::read_full(fd, t);
+    let length = start + rest(fd);
+    libc::close(fd);
+    length
+}
+
+fn print_refusal(number: u8, place: usize) {
+    let mut text = [0u8; 60];
+    let end = lines::tables_refused(number, place, &mut text);
+    io::write_all(STDOUT_FILENO, &text[..end]);
+}
+
+// The line that a broken tail is given.
+fn print_torn(tail: usize) {
+    if tail > 0 {
+        let mut text = [0u8; 18];
+        let end = lines::events_refused(0, &mut text);
+        io::write_all(STDOUT_FILENO, &text[..end]);
+    }
+}
+
+// Runs whole records, the first of them with the number `first`, and prints their lines. A state that the kernel gave is never refused.
+fn answer_events(t: &[u8], state: State, first: u64, events: &[u8]) -> Turned
+    requires { ⌜ (length (now events) ≤ 32000) × (first + 400 ≤ 2 ^ 64) ⌝ }
+{
+    let mut answers = [0u8; 32_000];
+    let ran = kernel::run(t, state, events, &mut answers);
+    let mut text = [0u8; 127_200];
+    let end = lines::lines(first, events, &answers, &mut text);
+    let is_written = io::write_all(STDOUT_FILENO, &text[..end]);
+    let after = ran.state;
+    Turned {
+        state: after,
+        more: is_written,
+    }
+}
+
+// Reads at most 400 records, and runs those that are whole. The input may go on where all of them came.
+fn take_turn(t: &[u8], state: State, turns: u64) -> Turned
+    requires { ⌜ turns < 2 ^ 54 ⌝ }
+{
+    let mut events = [0u8; 32_000];
+    let got = io::read_full(STDIN_FILENO, &mut events);
+    let parts = lines::split(got);
+    let end = 80 * parts.whole;
+    let turned = answer_events(t, state, 400 * turns, &events[..end]);
+    print_torn(parts.tail);
+    let after = turned.state;
+    Turned {
+        state: after,
+        more: turned.more && got == 32_000,
+    }
+}
+
+// One turn after another, to the end of the input, or of the number of turns, which no input reaches.
+fn run_all(t: &[u8], loaded: State) {
+    let mut state = loaded;
+    let mut turns: u64 = 0;
+    while turns < 0x40_0000_0000_0000 {
+        let turned = take_turn(t, state, turns);
+        if !turned.more {
+            return;
+        }
+        state = turned.state;
+        turns += 1;
+    }
+}
+
+fn run_tables(t: &[u8]) {
+    let loaded = kernel::load(t);
+    let verdict = loaded.verdict;
+    match verdict {
+        Verdict::Accepted => run_all(t, loaded.state),
+        Verdict::Refused(number, place) => print_refusal(number, place),
+    }
+}
+
+fn main() {
+    let mut t = [0u8; 7_728];
+    let size = lines::loaded_length(read_tables(&mut t));
+    run_tables(&t[..size]);
+}
