@@ -1,2 +1,3 @@
 -- What the proofs of the runner's text share.
 pub mod Laws
+pub mod Examples
