@@ -1,10 +1,8 @@
 -- Lines of 01's listing, and what the digits of a number say. Assumes nothing.
-use Prim.Native.Nat.{ℕ, zero, suc, _+_, _*_, _/_, _%_, _^_, _≤_, _<_}
-use mathlib.Core.Path.{_≡_, refl, sym, ap, _∙_}
-use mathlib.Core.List.{List, [], _∷_, _++_}
-use native.Mathlib.Omega.{arith}
+use mathlib.Core.Path.{_≡_, refl}
+use mathlib.Core.List.{[], _∷_}
 use Rattle.model.specs.Words.{zeros}
-use Rattle.lines.specs.Text.{decimal, digits, field, who, what, how, showsMessage, message, line, hexByte, tablesRefused}
+use Rattle.lines.specs.Text.{decimal, field, who, what, how, showsMessage, message, line, hexByte}
 use Rattle.model.specs.Answers.{handed, stretch, isHanded}
 
 -- a read, answered with the message 41 42: `9 1 0 0 0 2 1 0 0 4142`
@@ -20,4 +18,3 @@ status-line :
     ≡ 49 ∷ 48 ∷ 32 ∷ 49 ∷ 32 ∷ 48 ∷ 32 ∷ 48 ∷ 32 ∷ 50 ∷ 48 ∷ 32 ∷ 52 ∷ 32 ∷ 49 ∷ 32 ∷ 49 ∷ 32 ∷ 48 ∷ 32 ∷ 45 ∷ 10 ∷ []
 unfolding line who what how message showsMessage field decimal hexByte handed stretch isHanded
 status-line = refl
-

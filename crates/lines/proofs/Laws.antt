@@ -7,7 +7,7 @@ use mathlib.Core.Bool.{Bool, true, false}
 use native.Mathlib.Numerals.{add-one, sub-one}
 use native.Mathlib.Omega.{arith}
 use lib.ListN.{length, take, drop, getD, set, length-append, length-take, take-append-drop}
-use lib.Seq.{take-at, drop-at, drop-append-add, drop-drop, set-split, take-suc, length-take-le, take-all}
+use lib.Seq.{take-at, drop-append-add, drop-drop, set-split, take-suc, length-take-le}
 use borrow.Author.Tests.{lt-ltb, le-ltb}
 use Rattle.model.specs.Words.{word32}
 use Rattle.kernel.proofs.Laws.{one-handed, none-handed, handed-short as kernel-short}

@@ -1,7 +1,6 @@
 -- `runner::rest` meets its contract and ends: the measure is the number of turns that are left. Assumes nothing.
 use Prim.Native.Nat.{_*_, _-_, _≤_}
 use borrow.Author.Needs.{needs}
-use native.Mathlib.Omega.{arith}
 use Rattle.runner.proofs.rest.Statement.{statement}
 use Rattle.runner.proofs.rest.Tie as tie
 use Rattle.runner.proofs.rest.Reads as reads

@@ -1,7 +1,6 @@
 -- `runner::run_all` is safe and ends: the measure is the number of turns that are left. Assumes nothing.
 use Prim.Native.Nat.{_-_, _≤_}
 use borrow.Author.Needs.{needs}
-use native.Mathlib.Omega.{arith}
 use Rattle.runner.proofs.run_all.Statement.{statement}
 use Rattle.runner.proofs.run_all.Tie as tie
 use Rattle.runner.proofs.run_all.Reads as reads

@@ -1,5 +1,4 @@
 -- `lines::digits::hex_byte` meets its contract: two digits. Assumes nothing.
-use Prim.Native.Nat.{_/_, _%_}
 use mathlib.Core.Path.{ap}
 use mathlib.Core.List.{[], _∷_}
 use Rattle.lines.proofs.Laws

@@ -1,6 +1,6 @@
 -- `lines::records::line_at` meets its contract: the line of the record that stands there. Assumes nothing.
 use Prim.Native.Nat.{_+_, _*_, _-_}
-use mathlib.Core.Path.{_≡_, ap₂, ap}
+use mathlib.Core.Path.{_≡_, ap}
 use lib.ListN.{take, drop}
 use Rattle.lines.specs.Text.{line}
 use Rattle.lines.proofs.Laws

@@ -1,6 +1,5 @@
 -- `lines::records::message` meets its contract: what the reader hands out, or a dash. Assumes nothing.
-use Prim.Native.Nat.{_*_, _≤_}
-use mathlib.Core.Path.{_≡_, sym, ap, _∙_}
+use mathlib.Core.Path.{sym, ap, _∙_}
 use lib.ListN.{length}
 use Rattle.lines.specs.Text.{hex}
 use Rattle.lines.proofs.Laws
