@@ -135,9 +135,12 @@ pub digits-one : (k n : ℕ) → (k ≡ 0 → ⊥) → n < 10 → digits k n ≡
 digits-one zero n some low = absurd (some refl)
 digits-one (suc k) n some low = rw (lt-ltb n 10 low)
 
+pub digits-next : (k n : ℕ) → 10 ≤ n → digits (suc k) n ≡ digits k (n / 10) ++ ((48 + n % 10) ∷ [])
+digits-next k n high = rw (le-ltb n 10 high)
+
 pub digits-more : (k n : ℕ) → (k ≡ 0 → ⊥) → 10 ≤ n → digits k n ≡ digits (k - 1) (n / 10) ++ ((48 + n % 10) ∷ [])
 digits-more zero n some high = absurd (some refl)
-digits-more (suc k) n some high = rw (le-ltb n 10 high, sub-one) refl
+digits-more (suc k) n some high = rw sub-one (digits-next k n high)
 
 -- one more byte of a text
 pub text-more : (text : List ℕ) (i : ℕ) → i < length text → take i text ++ (getD text i 0 ∷ []) ≡ take (i + 1) text

@@ -1,3 +1,4 @@
 -- What the proofs of the runner's text share.
 pub mod Laws
+pub mod Said
 pub mod Examples

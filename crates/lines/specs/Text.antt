@@ -65,7 +65,7 @@ message event answer = if showsMessage event answer then hex (handed answer 0) e
 unfoldable pub line : ℕ → List ℕ → List ℕ → List ℕ
 line number event answer = who number answer ++ (what answer ++ (how answer ++ (message event answer ++ (newline ∷ []))))
 
--- the lines of n records from record i on, the first of them with the number first + i
+-- the lines of the first n records, numbered from first on
 abbrev pub lines : ℕ → List ℕ → List ℕ → ℕ → List ℕ
 lines first events answers zero = []
 lines first events answers (suc n) = lines first events answers n ++ line (first + n) (take 80 (drop (80 * n) events)) (take 80 (drop (80 * n) answers))
