@@ -53,11 +53,7 @@ extern "C" {
 #define MUEANPHRAI_STATE_NUMBERS 24u
 #define MUEANPHRAI_STATE_MESSAGES 3352u
 
-/* What a load says: 0 where the tables are accepted, else the refusal and the first offending record, counted from 0. */
-#define MUEANPHRAI_CODE(verdict) ((uint8_t)((verdict) & 0xffu))
-#define MUEANPHRAI_RECORD(verdict) ((uint64_t)(verdict) >> 8)
-
-/* Refusals of tables. The first offending record is told; within a record the lower number. */
+/* Refusals of tables. The first offending record decides; within a record the lower number. */
 #define MUEANPHRAI_TABLES_LENGTH 20u    /* length 0 or not a multiple of 48; record 0; tested first */
 #define MUEANPHRAI_TABLES_KIND 21u      /* a kind not 1 to 3, or below the kind before */
 #define MUEANPHRAI_TABLES_TOO_MANY 22u  /* a 65th window or port, or a 33rd channel */
@@ -75,9 +71,11 @@ extern "C" {
 size_t mueanphrai_state_size(void);
 
 /* Loads tables: writes the state at load into `state` and answers 0.
- * Refused tables answer MUEANPHRAI_CODE 20 to 26 with MUEANPHRAI_RECORD; else a state buffer of another size answers code 29, record 0.
- * A refused load touches no byte of `state`. */
-uint64_t mueanphrai_load(const uint8_t *tables, size_t tables_length, uint8_t *state, size_t state_length);
+ * Refused tables answer 20 to 26; else a state buffer of another size answers 29. A refused load touches no byte of `state`. */
+uint8_t mueanphrai_load(const uint8_t *tables, size_t tables_length, uint8_t *state, size_t state_length);
+
+/* The first offending record of tables that a load refuses, counted from 0; 0 where a load accepts them. */
+size_t mueanphrai_refused_record(const uint8_t *tables, size_t tables_length);
 
 /* Test 29: 1 where a load accepts the tables, the buffer has the size of a state and each of its numbers is in its range, else 0. */
 uint8_t mueanphrai_in_range(const uint8_t *tables, size_t tables_length, const uint8_t *state, size_t state_length);

@@ -33,15 +33,15 @@ use Rattle.steps.specs.Stepped.{Ready}
 use Rattle.kernel.specs.Meets.{isSound, stateAfter, answersAfter, ListMeets, CarriedOut}
 
 -- the refusals of a list
-fault-28 : (events buffer : List ℕ) (s : Bool) → length buffer < length events → listFault true events buffer s ≡ 28
+pub fault-28 : (events buffer : List ℕ) (s : Bool) → length buffer < length events → listFault true events buffer s ≡ 28
 unfolding listFault
 fault-28 events buffer s h = rw (lt-ltb (length buffer) (length events) h)
 
-fault-29 : (events buffer : List ℕ) (s : Bool) → length events ≤ length buffer → s ≡ false → listFault true events buffer s ≡ 29
+pub fault-29 : (events buffer : List ℕ) (s : Bool) → length events ≤ length buffer → s ≡ false → listFault true events buffer s ≡ 29
 unfolding listFault
 fault-29 events buffer s h e = rw (le-ltb (length buffer) (length events) h, e)
 
-fault-0 : (events buffer : List ℕ) (s : Bool) → length events ≤ length buffer → s ≡ true → listFault true events buffer s ≡ 0
+pub fault-0 : (events buffer : List ℕ) (s : Bool) → length events ≤ length buffer → s ≡ true → listFault true events buffer s ≡ 0
 unfolding listFault
 fault-0 events buffer s h e = rw (le-ltb (length buffer) (length events) h, e)
 

@@ -6,6 +6,7 @@ mod testing;
 
 ghost use mathlib.Core.Path.{_≡_};
 ghost use Rattle.states.specs.Shown.{atLoad, allZero};
+pub use settling::lay_bytes;
 pub use settling::put_together;
 pub use testing::in_range;
 

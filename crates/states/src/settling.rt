@@ -18,8 +18,8 @@ fn lay_numbers(to: &mut [u32], at: usize, part: &[u32])
     }
 }
 
-// The same of bytes.
-fn lay_bytes(to: &mut [u8], at: usize, part: &[u8])
+// The same of bytes; a host lays a buffer with it too.
+pub fn lay_bytes(to: &mut [u8], at: usize, part: &[u8])
     requires { ⌜ at + length (now part) ≤ length (now to) ⌝ }
     ensures { λ _. ⌜ now (to .exit) ≡ pasted (now (to .entry)) at (now (part .entry)) ⌝ }
 {

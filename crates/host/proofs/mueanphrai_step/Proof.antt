@@ -1,0 +1,63 @@
+-- `host::mueanphrai_step` meets its contract, by the size of the buffer: the kernel's call, handed back. Assumes nothing.
+use mathlib.Core.Path.{subst}
+use lib.Dec.{eqb}
+use lib.ListN.{length}
+use borrow.Author.Tests.{eq-eqb, ne-eqb}
+use Rattle.model.specs.Run.{listFault}
+use Rattle.states.specs.declared.State.{State}
+use Rattle.kernel.specs.Meets.{isSound, ListMeets}
+use Rattle.host.proofs.Calls.{unsized, sized}
+use borrow.Author.Needs.{needs}
+use Rattle.host.proofs.mueanphrai_step.Statement.{statement}
+use Rattle.host.proofs.mueanphrai_step.Tie as tie
+
+refused-size-requires : tie.Need-refused-size-requires
+refused-size-requires c κs = search needs
+
+same-length : tie.Need-same-length
+same-length c = search needs
+
+returns : tie.Need-returns
+returns c =
+    let s = c .before .before .before .before .before .before .before .args in
+    let from = s .state .now in
+    unsized (s .tables .now) from _ (s .event .now) (s .answers .now) (ne-eqb (length from) 36120 (c .before .before .if1 .taken)) (c .refused-size .ensures)
+
+state-of-requires : tie.Need-state-of-requires
+state-of-requires c κs = search needs
+
+step-requires : tie.Need-step-requires
+step-requires c κs = search needs
+
+hand-back-requires : tie.Need-hand-back-requires
+hand-back-requires c κs = search needs
+
+same-length-2 : tie.Need-same-length-2
+same-length-2 c = search needs
+
+same-length-3 : tie.Need-same-length-3
+same-length-3 c = search needs
+
+returns-2 : tie.Need-returns-2
+returns-2 c =
+    let s = c .before .before .before .before .before .before .before .before .before .before .before .before .before .before .before .args in
+    let from = s .state .now in
+    let t = s .tables .now in
+    let es = s .event .now in
+    let a = s .answers .now in
+    let whole = eqb (length es) 80 in
+    sized t from whole es a (eq-eqb (length from) 36120 (c .before .before .before .before .before .before .before .before .before .before .if1 .left)) (subst (λ (st : State). ListMeets (listFault whole es a (isSound t st)) t st es a (c .before .before .before .before .before .before .step .result) (c .before .before .before .before .before .before .step .last .1 .1 .1 .0)) (c .before .before .before .before .before .before .before .before .state-of .ensures) (c .before .before .before .before .before .before .step .ensures)) (c .before .before .hand-back .ensures)
+
+pub mueanphrai-step-spec : {M : Type 1} → statement M
+mueanphrai-step-spec =
+    tie.close
+    (tie.spec
+    refused-size-requires
+    same-length
+    returns
+    state-of-requires
+    step-requires
+    hand-back-requires
+    same-length-2
+    same-length-3
+    returns-2)
