@@ -25,6 +25,11 @@ fn full_channels(plan: &mut Plan, sampling: impl Fn(usize) -> bool) {
     }
 }
 
+/// That many windows and nothing else: sound up to 64.
+pub fn window_tables(windows: usize) -> Vec<u8> {
+    edge(|plan| (0..windows).for_each(|window| plan.window(window as u8 % 16, 10)))
+}
+
 /// Sound tables at each edge, with what they show.
 pub fn edge_tables() -> Vec<(&'static str, Vec<u8>)> {
     vec![
