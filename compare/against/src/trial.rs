@@ -3,6 +3,7 @@
 use crate::guarded::Guarded;
 use crate::layout::{bytes_of, state_of, SIZE};
 use crate::outcome::{compare, expected, given, same_state, Lent, Outcome, Way};
+use crate::seen::Seen;
 use mueanphrai::lent;
 use plain::make::Dice;
 use plain::{judge, State, Verdict};
@@ -18,6 +19,8 @@ pub struct Trial {
     pub dice: Dice,
     /// Calls compared so far.
     pub calls: u64,
+    /// Answers met so far.
+    pub seen: Seen,
 }
 
 impl Trial {
@@ -31,6 +34,7 @@ impl Trial {
             number,
             dice: Dice::new(mixed.number() ^ number),
             calls: 0,
+            seen: Seen::default(),
         }
     }
 
@@ -72,6 +76,9 @@ impl Trial {
     pub fn call(&mut self, way: Way, lent: Lent) -> Result<Outcome, String> {
         let outcome = given(way, lent, self.before())?;
         compare(lent.events, &expected(way, lent), &outcome)?;
+        if outcome.code == 0 {
+            self.seen.count(lent.events, &outcome.answers);
+        }
         Ok(outcome)
     }
 

@@ -14,7 +14,7 @@ pub fn full_tables() -> Vec<u8> {
 }
 
 /// 32 channels with one destination each, some of them sampling; queuing depths 1..8 in turn.
-fn full_channels(plan: &mut Plan, sampling: impl Fn(usize) -> bool) {
+pub fn full_channels(plan: &mut Plan, sampling: impl Fn(usize) -> bool) {
     for pair in 0..32 {
         let depth = |shift: usize| Mode::Queuing(((pair / 2 + shift) % 8 + 1) as u32);
         if sampling(pair) {
