@@ -115,6 +115,23 @@ fn steps_are_the_run() {
 }
 
 #[test]
+fn calls_at_once_do_not_meet() {
+    let (tables, events) = (sky(), listing());
+    let once = || {
+        let mut state = load(&tables).unwrap();
+        let mut answers = vec![0; events.len()];
+        run(&tables, &mut state, &events, &mut answers).unwrap();
+        (state, answers)
+    };
+    let alone = once();
+    std::thread::scope(|threads| {
+        for _ in 0..4 {
+            threads.spawn(|| (0..50).for_each(|_| assert!(once() == alone)));
+        }
+    });
+}
+
+#[test]
 fn a_load_gives_the_state_at_load_or_the_first_fault() {
     let state = load(&sky()).unwrap();
     assert_eq!((state.window(), state.time()), (0, 0));

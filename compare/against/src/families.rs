@@ -22,42 +22,23 @@ pub struct Family {
 
 /// All families; a round takes well under a minute.
 pub const FAMILIES: [Family; 7] = [
-    Family {
-        name: "tables",
-        cases: 700,
-        compare: tables::compare,
-    },
-    Family {
-        name: "lists",
-        cases: 3000,
-        compare: lists::compare,
-    },
-    Family {
-        name: "states",
-        cases: 500,
-        compare: states::compare,
-    },
-    Family {
-        name: "sizes",
-        cases: 50,
-        compare: sizes::compare,
-    },
-    Family {
-        name: "reader",
-        cases: 2000,
-        compare: reader::compare,
-    },
-    Family {
-        name: "steps",
-        cases: 1200,
-        compare: steps::compare,
-    },
-    Family {
-        name: "long",
-        cases: 32,
-        compare: long::compare,
-    },
+    family("tables", 700, tables::compare),
+    family("lists", 3_000, lists::compare),
+    family("states", 500, states::compare),
+    family("sizes", 50, sizes::compare),
+    family("reader", 2_000, reader::compare),
+    family("steps", 1_200, steps::compare),
+    family("long", 32, long::compare),
 ];
+
+/// A family by its parts.
+const fn family(name: &'static str, cases: u64, compare: fn(&mut Trial) -> Compared) -> Family {
+    Family {
+        name,
+        cases,
+        compare,
+    }
+}
 
 /// Sound tables: a family's first cases have those at the edges in turn, the others any.
 fn sound_tables(trial: &mut Trial) -> Vec<u8> {
