@@ -1,11 +1,11 @@
-//! States handed in: in range, out of range in each field, and with every number of a row at each
+//! States handed in: in range, out of range in each field, and with each number of a row at some
 //! edge. Whether one passes test 29 the plain kernel says; a state that does is run.
 
 use super::sound_tables;
-use crate::layout::{bytes_of, number_place, MODES, ROW};
+use crate::layout::{bytes_of, number_place, state_of, MODES, ROW};
 use crate::outcome::{Lent, Way};
 use crate::trial::{Compared, Trial};
-use plain::bytes::put32;
+use plain::bytes::{get32, put32};
 use plain::make::*;
 use plain::tables::Prepared;
 use plain::State;
@@ -19,7 +19,7 @@ pub fn compare(trial: &mut Trial) -> Compared {
     tested(trial, &tables, &late, "near the end of the tick count")?;
     for (name, state) in broken_states(&mut trial.dice, &tables) {
         let bytes = bytes_of(&state);
-        if plain::in_range(&tables, &crate::layout::state_of(&bytes)) {
+        if plain::in_range(&tables, &state_of(&bytes)) {
             return Err(format!("{name} was made out of range, and passes"));
         }
         tested(trial, &tables, &bytes, name)?;
@@ -108,7 +108,7 @@ fn tested(trial: &mut Trial, tables: &[u8], state: &[u8], name: &str) -> Compare
 
 fn every_call(trial: &mut Trial, tables: &[u8], state: &[u8]) -> Compared {
     trial.in_range(tables, state)?;
-    let window = trial.dice.below(64);
+    let window = get32(state, 0) as usize;
     let events = played_list(&mut trial.dice, tables, window, 5);
     let answers = trial.dice.bytes(events.len() + 3);
     for (way, count) in [(Way::Run, 5), (Way::Run, 0), (Way::Step, 1)] {
