@@ -4,7 +4,7 @@
 here=$(cd "$(dirname "$0")" && pwd)
 cases=${1:-$here/../../tests/vectors/base}
 (cd "$here" && cargo build --release --quiet --bin plainrun) || exit 2
-plainrun=$here/target/release/plainrun
+plainrun=${CARGO_TARGET_DIR:-$here/target}/release/plainrun
 agree=0
 total=0
 for folder in "$cases"/[0-9]*/; do

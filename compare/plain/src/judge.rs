@@ -52,7 +52,7 @@ pub fn judge(tables: &[u8]) -> Verdict {
 /// The verdict on tables of which only the length and the first records are at hand
 /// (01, runner: "of one over 7,728 bytes only the first 161 records and the length are used").
 pub fn judge_file(length: usize, tables: &[u8]) -> Verdict {
-    if length == 0 || !length.is_multiple_of(RECORD) {
+    if length == 0 || length % RECORD != 0 {
         return Verdict::Refused {
             number: 20,
             record: 0,
@@ -179,8 +179,9 @@ impl<'a> Walk<'a> {
 
     /// 25: every end has a row, its direction and mode fit, and no port is named twice.
     fn ends_fit(&self, record: &[u8]) -> bool {
-        let Some(source) = self.row(source_id(record)) else {
-            return false;
+        let source = match self.row(source_id(record)) {
+            Some(source) => source,
+            None => return false,
         };
         if source[3] != SOURCE || (source[2] == QUEUING && record[1] != 1) {
             return false;

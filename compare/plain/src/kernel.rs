@@ -22,7 +22,7 @@ pub fn step(tables: &[u8], state: &mut State, event: &[u8], answers: &mut [u8]) 
 /// Carries out a list: 0, or 27 (not a multiple of 80), 28 (answers shorter than the events),
 /// 29 (tables or state refused; also for an empty list). A refusal touches nothing.
 pub fn run(tables: &[u8], state: &mut State, events: &[u8], answers: &mut [u8]) -> u8 {
-    if !events.len().is_multiple_of(EVENT) {
+    if events.len() % EVENT != 0 {
         return 27;
     }
     if answers.len() < events.len() {
@@ -141,7 +141,7 @@ fn arrive(tables: &Prepared, state: &mut State, place: usize, message: &[u8]) {
 /// Start and length of the message that an answer record hands out: "bytes 16 up to 16 plus
 /// length of the record asked for", or the empty stretch at the start.
 pub fn stretch(answers: &[u8], record: usize) -> (usize, usize) {
-    if !answers.len().is_multiple_of(EVENT) || record >= answers.len() / EVENT {
+    if answers.len() % EVENT != 0 || record >= answers.len() / EVENT {
         return (0, 0);
     }
     let start = record * EVENT;

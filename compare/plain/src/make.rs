@@ -21,8 +21,10 @@ pub mod tables;
 
 pub use damage::{any_byte, damaged_tables, each_fault, raw_tables};
 pub use dice::Dice;
-pub use edges::{edge_tables, full_tables};
-pub use lists::{fill_list, mixed_list, near_raw_list, played_list, raw_list};
+pub use edges::{edge_tables, full_channels, full_tables, window_tables};
+pub use lists::{
+    fill_list, made_list, mixed_list, near_raw_list, played_list, raw_list, steady_list,
+};
 pub use plan::Plan;
 pub use states::{broken_states, state_in_range, state_near_end, state_out_of_range, turned_state};
 pub use tables::valid_tables;

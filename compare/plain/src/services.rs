@@ -94,8 +94,9 @@ fn create(
     event: &Record,
     answer: &mut Record,
 ) -> u8 {
-    let Some(place) = named_row(tables, caller, event) else {
-        return INVALID_CONFIG;
+    let place = match named_row(tables, caller, event) {
+        Some(place) => place,
+        None => return INVALID_CONFIG,
     };
     let port = &mut state.ports[place];
     if port.created == 1 {

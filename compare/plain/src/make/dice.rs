@@ -58,8 +58,8 @@ impl Dice {
 
     /// Fills with any bytes.
     pub fn fill(&mut self, bytes: &mut [u8]) {
-        for byte in bytes {
-            *byte = self.byte();
+        for eight in bytes.chunks_mut(8) {
+            eight.copy_from_slice(&self.number().to_le_bytes()[..eight.len()]);
         }
     }
 

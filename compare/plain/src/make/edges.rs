@@ -14,7 +14,7 @@ pub fn full_tables() -> Vec<u8> {
 }
 
 /// 32 channels with one destination each, some of them sampling; queuing depths 1..8 in turn.
-fn full_channels(plan: &mut Plan, sampling: impl Fn(usize) -> bool) {
+pub fn full_channels(plan: &mut Plan, sampling: impl Fn(usize) -> bool) {
     for pair in 0..32 {
         let depth = |shift: usize| Mode::Queuing(((pair / 2 + shift) % 8 + 1) as u32);
         if sampling(pair) {
@@ -23,6 +23,11 @@ fn full_channels(plan: &mut Plan, sampling: impl Fn(usize) -> bool) {
             plan.joined(pair, depth(0), depth(pair / 16), 1);
         }
     }
+}
+
+/// That many windows and nothing else: sound up to 64.
+pub fn window_tables(windows: usize) -> Vec<u8> {
+    edge(|plan| (0..windows).for_each(|window| plan.window(window as u8 % 16, 10)))
 }
 
 /// Sound tables at each edge, with what they show.

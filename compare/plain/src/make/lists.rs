@@ -172,13 +172,28 @@ fn some_event(dice: &mut Dice, player: &Player) -> Record {
     }
     let (row, id) = dice.pick(&own);
     match dice.below(10) {
-        0 => create(&row),
+        0 => some_create(dice, &row),
         1 => get_id(&row),
         2 => status(&row, id),
         3 if dice.chance(1, 3) => clear(id),
         _ if row.direction == SOURCE => some_store(dice, &row, id),
         _ => fetch(&row, id),
     }
+}
+
+/// A create as the row wants it, or with one field beside what it should be.
+fn some_create(dice: &mut Dice, row: &Row) -> Record {
+    let mut event = create(row);
+    let far = dice.pick(&[256, 1 << 16, 1 << 24]);
+    match dice.below(12) {
+        0 => event[1] ^= 1,
+        1 => put32(&mut event, 4, row.refresh_or_depth() + 1),
+        2 => put32(&mut event, 4, row.refresh_or_depth() + far),
+        3 => put32(&mut event, 8, row.largest - 1),
+        4 => put32(&mut event, 8, row.largest + far),
+        _ => {}
+    }
+    event
 }
 
 /// A move of any channel, or of none.
@@ -231,20 +246,28 @@ fn mistaken(dice: &mut Dice, mut event: Record) -> Record {
     event
 }
 
-/// A list for measuring: all ports made, every partition NORMAL, then calls and moves that mostly do
-/// something, a few events in each window.
-pub fn mixed_list(dice: &mut Dice, tables: &[u8], count: usize) -> Vec<u8> {
+/// All ports made and every partition NORMAL, in two turns of the schedule.
+pub fn made_list(tables: &[u8]) -> Vec<u8> {
     let tables = Prepared::of(tables).expect("sound tables");
     let mut player = Player::new(&tables, 0);
     player.cycle(Player::create_own);
     player.cycle(|p| p.set_mode(NORMAL));
+    player.list
+}
+
+/// A list for measuring, from a window on, for made ports: calls and moves that mostly do something, a
+/// few calls in each partition's window and some forty moves in a turn of the schedule.
+pub fn steady_list(dice: &mut Dice, tables: &[u8], window: usize, count: usize) -> Vec<u8> {
+    let tables = Prepared::of(tables).expect("sound tables");
+    let mut player = Player::new(&tables, window);
+    let windows = tables.windows.iter();
+    let movers = windows.filter(|window| window.partition == MOVER).count();
     while player.list.len() < count * 80 {
-        let mover = player.partition() == MOVER;
-        for _ in 0..if mover {
-            dice.between(24, 40)
-        } else {
-            dice.between(2, 6)
-        } {
+        let calls = match player.partition() {
+            MOVER => dice.between(32, 48) / movers,
+            _ => dice.between(2, 6),
+        };
+        for _ in 0..calls {
             let event = steady_event(dice, &player);
             player.add(event);
         }
@@ -252,6 +275,14 @@ pub fn mixed_list(dice: &mut Dice, tables: &[u8], count: usize) -> Vec<u8> {
     }
     player.list.truncate(count * 80);
     player.list
+}
+
+/// Made ports, then a steady load.
+pub fn mixed_list(dice: &mut Dice, tables: &[u8], count: usize) -> Vec<u8> {
+    let mut list = made_list(tables);
+    list.extend(steady_list(dice, tables, 0, count));
+    list.truncate(count * 80);
+    list
 }
 
 /// A move in a mover window, else a call on an own port.

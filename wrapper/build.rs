@@ -1,0 +1,20 @@
+//! Says where the archive libhost.a stands: in the folder that MUEANPHRAI_LIB names, else where
+//! `rt staticlib host` writes it. A changed archive is linked again.
+
+use std::env;
+use std::path::PathBuf;
+
+fn main() {
+    let folder = match env::var_os("MUEANPHRAI_LIB") {
+        Some(folder) => PathBuf::from(folder),
+        None => {
+            let here = env::var_os("CARGO_MANIFEST_DIR").expect("cargo names the crate's folder");
+            PathBuf::from(here).join("../target/staticlib")
+        }
+    };
+    let archive = folder.join("libhost.a");
+    println!("cargo:rerun-if-env-changed=MUEANPHRAI_LIB");
+    println!("cargo:rerun-if-changed={}", archive.display());
+    println!("cargo:rustc-link-search=native={}", folder.display());
+    println!("cargo:rustc-link-lib=static=host");
+}
