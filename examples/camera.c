@@ -116,16 +116,16 @@ static void turn(const char *picture, uint8_t moved, const char *seen, uint8_t v
 
 int main(void)
 {
-    uint64_t verdict;
+    uint8_t code;
     window(0, RENDERER, 10);
     window(1, MOVER, 5);
     window(2, INSTRUMENT, 20);
     sampling_port(3, RENDERER, SOURCE, 0);
     sampling_port(4, INSTRUMENT, DESTINATION, REFRESH);
     channel(5, 1, 2);
-    verdict = mueanphrai_load(tables, sizeof tables, state, sizeof state);
-    printf("load: code %u, record %u\n", MUEANPHRAI_CODE(verdict), (unsigned)MUEANPHRAI_RECORD(verdict));
-    must(verdict == 0, "the tables are accepted");
+    code = mueanphrai_load(tables, sizeof tables, state, sizeof state);
+    printf("load: code %u\n", code);
+    must(code == 0, "the tables are accepted");
 
     create(SOURCE, 0);
     next_window();

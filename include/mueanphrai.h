@@ -43,8 +43,8 @@ extern "C" {
  *   3,352   32,768  the message bytes: 64 blocks of eight slots of 64 bytes; slot s of row k starts at 3,352 + 512 k + 64 s
  *
  * Row k is that of port k, the tables' ports in their order, from 0: the port with id k + 1. Rows beyond the tables' ports are not
- * looked at and stay as they are. After a list that was run the oldest message of each port is in slot 0, the others
- * follow, and every length and byte that is no message's is zero; so equal states are equal bytes.
+ * looked at and stay as they are. After a list that was run and is not empty, the oldest message of each of the tables' ports is
+ * in slot 0, the others follow, and every length and byte of these rows that is no message's is zero.
  */
 #define MUEANPHRAI_STATE_SIZE 36120u
 #define MUEANPHRAI_STATE_WINDOW 0u

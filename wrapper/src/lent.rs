@@ -17,7 +17,8 @@ mod archive {
             tables_length: usize,
             state: *mut u8,
             state_length: usize,
-        ) -> u64;
+        ) -> u8;
+        pub fn mueanphrai_refused_record(tables: *const u8, tables_length: usize) -> usize;
         pub fn mueanphrai_in_range(
             tables: *const u8,
             tables_length: usize,
@@ -62,8 +63,8 @@ pub fn state_size() -> usize {
     unsafe { archive::mueanphrai_state_size() }
 }
 
-/// Loads tables into a state: 0, or the refusal in the lowest byte and the record above it.
-pub fn load(tables: &[u8], state: &mut [u8]) -> u64 {
+/// Loads tables into a state: 0, or the refusal.
+pub fn load(tables: &[u8], state: &mut [u8]) -> u8 {
     unsafe {
         archive::mueanphrai_load(
             tables.as_ptr(),
@@ -72,6 +73,11 @@ pub fn load(tables: &[u8], state: &mut [u8]) -> u64 {
             state.len(),
         )
     }
+}
+
+/// The first offending record of tables that a load refuses, else 0.
+pub fn refused_record(tables: &[u8]) -> usize {
+    unsafe { archive::mueanphrai_refused_record(tables.as_ptr(), tables.len()) }
 }
 
 /// Test 29: 1 where the tables and the state pass it, else 0.

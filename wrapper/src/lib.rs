@@ -54,7 +54,7 @@ pub struct Refused {
     /// 20 to 26.
     pub code: u8,
     /// The first offending record, counted from 0.
-    pub record: u64,
+    pub record: usize,
 }
 
 /// Loads tables: the state at load, or the first fault of the tables.
@@ -62,9 +62,9 @@ pub fn load(tables: &[u8]) -> Result<State, Refused> {
     let mut bytes = [0; STATE_SIZE];
     match lent::load(tables, &mut bytes) {
         0 => Ok(State::from_bytes(bytes)),
-        verdict => Err(Refused {
-            code: verdict as u8,
-            record: verdict >> 8,
+        code => Err(Refused {
+            code,
+            record: lent::refused_record(tables),
         }),
     }
 }

@@ -47,16 +47,19 @@ impl Trial {
     /// A load into a buffer of any bytes; a refused one touches none of them.
     pub fn load(&mut self, tables: &[u8], state: &[u8]) -> Compared {
         let mut buffer = Guarded::new(state, self.before());
-        let verdict = lent::load(tables, buffer.lend());
+        let said = (
+            lent::load(tables, buffer.lend()),
+            lent::refused_record(tables),
+        );
         let (wanted, after) = match judge(tables) {
-            Verdict::Refused { number, record } => {
-                (number as u64 | (record as u64) << 8, state.to_vec())
-            }
-            Verdict::Accepted if state.len() != SIZE => (29, state.to_vec()),
-            Verdict::Accepted => (0, bytes_of(&State::at_load())),
+            Verdict::Refused { number, record } => ((number, record), state.to_vec()),
+            Verdict::Accepted if state.len() != SIZE => ((29, 0), state.to_vec()),
+            Verdict::Accepted => ((0, 0), bytes_of(&State::at_load())),
         };
-        if verdict != wanted {
-            return Err(format!("load says {verdict:#x}, expected {wanted:#x}"));
+        if said != wanted {
+            return Err(format!(
+                "load says code and record {said:?}, expected {wanted:?}"
+            ));
         }
         same_state(&after, &buffer.back("state")?)
     }
