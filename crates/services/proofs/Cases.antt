@@ -4,6 +4,7 @@ use Prim.Native.Nat.{ℕ, _≤_, _<_}
 use mathlib.Core.Path.{_≡_, refl, sym, subst}
 use mathlib.Core.Bool.{true, false}
 use mathlib.Core.List.{List, [], _∷_}
+use mathlib.Core.Logic.{_⊎_, inl, inr}
 use native.Mathlib.Omega.{arith}
 use lib.ListN.{length}
 use borrow.Author.Tests.{eq-eqb, ne-eqb, lt-ltb, le-ltb}
@@ -93,30 +94,21 @@ no-message (m ∷ rest) h = absurd (omega arith)
 
 -- the services of an own port, by code
 module _ (time : ℕ) (r : Row) (e : Event) (f : Call) (q : Port) where
-  pub serve-write : f .code ≡ 2 → serve time r e f q ≡ put r e f q
+  pub serve-put : (f .code ≡ 2) ⊎ (f .code ≡ 7) → serve time r e f q ≡ put r e f q
   unfolding serve
-  serve-write a = rw (eq-eqb (f .code) 2 a)
+  serve-put (inl a) = rw a
+  serve-put (inr a) = rw a
 
-  module _ (n2 : f .code ≡ 2 → ⊥) where
-    pub serve-send : f .code ≡ 7 → serve time r e f q ≡ put r e f q
-    unfolding serve
-    serve-send a = rw (ne-eqb (f .code) 2 n2, eq-eqb (f .code) 7 a)
+  pub serve-get : (f .code ≡ 3) ⊎ (f .code ≡ 8) → serve time r e f q ≡ get time r f q
+  unfolding serve
+  serve-get (inl a) = rw a
+  serve-get (inr a) = rw a
 
-    module _ (n7 : f .code ≡ 7 → ⊥) where
-      pub serve-read : f .code ≡ 3 → serve time r e f q ≡ get time r f q
-      unfolding serve
-      serve-read a = rw (ne-eqb (f .code) 2 n2, ne-eqb (f .code) 7 n7, eq-eqb (f .code) 3 a)
+  pub serve-clear : f .code ≡ 11 → serve time r e f q ≡ cleared r f q
+  unfolding serve
+  serve-clear a = rw a
 
-      module _ (n3 : f .code ≡ 3 → ⊥) where
-        pub serve-receive : f .code ≡ 8 → serve time r e f q ≡ get time r f q
-        unfolding serve
-        serve-receive a = rw (ne-eqb (f .code) 2 n2, ne-eqb (f .code) 7 n7, ne-eqb (f .code) 3 n3, eq-eqb (f .code) 8 a)
-
-        module _ (n8 : f .code ≡ 8 → ⊥) where
-          pub serve-clear : f .code ≡ 11 → serve time r e f q ≡ cleared r f q
-          unfolding serve
-          serve-clear a = rw (ne-eqb (f .code) 2 n2, ne-eqb (f .code) 7 n7, ne-eqb (f .code) 3 n3, ne-eqb (f .code) 8 n8, eq-eqb (f .code) 11 a)
-
-          pub serve-status : (f .code ≡ 11 → ⊥) → serve time r e f q ≡ serves (status r q) q
-          unfolding serve
-          serve-status a = rw (ne-eqb (f .code) 2 n2, ne-eqb (f .code) 7 n7, ne-eqb (f .code) 3 n3, ne-eqb (f .code) 8 n8, ne-eqb (f .code) 11 a)
+  pub serve-status : ((f .code ≡ 2) ⊎ (f .code ≡ 7) → ⊥) → ((f .code ≡ 3) ⊎ (f .code ≡ 8) → ⊥) → (f .code ≡ 11 → ⊥) → serve time r e f q ≡ serves (status r q) q
+  unfolding serve
+  serve-status a b n =
+      rw (ne-eqb (f .code) 2 (λ x. a (inl x)), ne-eqb (f .code) 7 (λ x. a (inr x)), ne-eqb (f .code) 3 (λ x. b (inl x)), ne-eqb (f .code) 8 (λ x. b (inr x)), ne-eqb (f .code) 11 n)
