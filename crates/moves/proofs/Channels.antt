@@ -1,7 +1,7 @@
 -- What the proofs of the mover lean on, of a channel: where its record and its ends stand, its destinations in their turn, its source, and the whole move.
 -- Assumes nothing.
 use Prim.Native.Nat.{ℕ, suc, _+_, _-_, _≤_, _<_}
-use mathlib.Core.Path.{_≡_, refl, sym, _∙_, ap, subst}
+use mathlib.Core.Path.{_≡_, refl, sym, _∙_, ap, ap₂, subst}
 use mathlib.Core.Bool.{true}
 use mathlib.Core.List.{List, [], _∷_}
 use native.Mathlib.Numerals.{add-one}
@@ -10,7 +10,7 @@ use lib.ListN.{length, getD}
 use Rattle.model.specs.Words.{allIn}
 use Rattle.model.specs.Tables.{Tables, records, portsEnd, Row, row, rowAt, sourcePort, destinations, destinationPort}
 use Rattle.model.specs.Tables.{ports as portCount, channels as channelCount}
-use Rattle.model.specs.State.{Message, Clock, State, port, withPort, withQueue}
+use Rattle.model.specs.State.{Message, Clock, Port, State, port, withPort, withQueue}
 use Rattle.model.specs.Answers.{nothingTold}
 use Rattle.model.specs.Services.{Reply, arrived, delivered, transmitOldest, transmit}
 use Rattle.model.proofs.Tests.{both-left, between-low, between-high, is-between}
@@ -25,17 +25,18 @@ use Rattle.tables.proofs.Decoded.{shown as row-shown}
 use Rattle.events.specs.declared.answers.Answer.{Answer}
 use Rattle.events.specs.Shown.{refusedAs, toldAs}
 use Rattle.stores.specs.declared.Letter.{Letter}
-use Rattle.stores.specs.Ring.{Sized, written}
-use Rattle.stores.proofs.Laws.{queue-empty}
+use Rattle.stores.specs.Ring.{Sized, written, letterOf}
+use Rattle.stores.proofs.Laws.{written-letter}
 use Rattle.ports.specs.Held
-use Rattle.ports.specs.Held.{storeAt, portAt}
-use Rattle.ports.proofs.Ports.{store-queue, store-count}
+use Rattle.ports.specs.Held.{storeAt, portAt, PortPut}
+use Rattle.ports.proofs.Ports.{count-is}
 use Rattle.services.specs.declared.Layout.{Layout}
-use Rattle.services.specs.Served.{Lent, Fits}
+use Rattle.services.specs.Served.{Lent, Fits, TakesOldest}
 use Rattle.services.specs.Did
 use Rattle.services.specs.Did.{shown, Does}
 use Rattle.services.proofs.Laws.{sized-of}
-use Rattle.moves.specs.Moved.{Arrived, Carried, Left, Delivered, Moved}
+use Rattle.services.proofs.Cases.{some-message, no-message}
+use Rattle.moves.specs.Moved.{Arrived, Carried, Delivered, Moved}
 use Rattle.moves.proofs.Laws.{left-ranged, held-put, port-shown, put-shown}
 
 -- channel c of tables whose ports the lent arrays hold
@@ -144,57 +145,79 @@ module _ {t : Tables} {lay : Layout} {numbers bytes : List ℕ} (h : Did.Held t 
         subst (λ (x : ℕ). Sized (storeAt numbers bytes x)) (sym found)
         (sized-of numbers bytes (sourcePort t c) (decoded (row t (sourcePort t c))) (port-fits (sourcePort t c) source-there))
 
-    module _ {numbers₁ : List ℕ} {l : Letter} (gone : Left numbers bytes numbers₁ k l) where
-      from : Left numbers bytes numbers₁ (sourcePort t c) l
-      from = subst (λ (x : ℕ). Left numbers bytes numbers₁ x l) found gone
+    -- how many messages it holds
+    module _ {w : ℕ} (counted : w ≡ getD (Held.rowOf numbers k) 4 0) where
+      held : w ≡ length (portAt numbers bytes (sourcePort t c) .queue)
+      held = counted ∙ ap (λ x. getD (Held.rowOf numbers x) 4 0) found ∙ count-is numbers bytes (sourcePort t c)
 
-      ranged : PortRanged (row t (sourcePort t c)) (portAt numbers bytes (sourcePort t c))
-      ranged = h .each (sourcePort t c) source-there
+      -- where it holds a message
+      module _ (some : w ≡ 0 → ⊥) where
+        pub source-some : portAt numbers bytes k .queue ≡ [] → ⊥
+        source-some none = some (counted ∙ count-is numbers bytes k ∙ ap length none)
 
-      abbrev rest : List Message
-      rest = portAt numbers₁ bytes (sourcePort t c) .queue
+        abbrev sourceRow : Row
+        sourceRow = row t (sourcePort t c)
 
-      -- what has left it fits, and what it keeps is in range
-      pub source-carried : Carried t c l
-      source-carried =
-          let r = row t (sourcePort t c) in
-          record { short = gone .short; fit = both-left (fits r (written l)) (allIn (fits r) rest) (rw (from .whole) at (ranged .sized)) }
+        abbrev source : Port
+        source = portAt numbers bytes (sourcePort t c)
 
-      pub source-held : length numbers₁ ≡ length numbers → Did.Held t lay numbers₁ bytes
-      source-held same =
-          held-put h (from .put) (left-ranged (row t (sourcePort t c)) (portAt numbers bytes (sourcePort t c)) (written l) rest (from .whole) ranged) same refl
+        ranged : PortRanged sourceRow source
+        ranged = h .each (sourcePort t c) source-there
 
-      -- the whole move, where there is a message
-      pub moved : {r : Answer} (time : ℕ) (numbers₂ bytes₂ : List ℕ) → Delivered t time c (written l) numbers₁ bytes numbers₂ bytes₂
-          → r ≡ toldAs (64 + c) nothingTold → Moved t time c r numbers bytes numbers₂ bytes₂
+        oldest : (m : Message) × (rest : List Message) × (source .queue ≡ m ∷ rest)
+        oldest = some-message (source .queue) (λ none. some (held ∙ none))
+
+        -- the oldest fits its row
+        fit : fits sourceRow (oldest .0) ≡ true
+        fit = both-left (fits sourceRow (oldest .0)) (allIn (fits sourceRow) (oldest .1)) (rw (oldest .2) at (ranged .sized))
+
+        short : length (oldest .0) ≤ 64
+        short = omega (arith, between-high 1 (sourceRow .largest) (length (oldest .0)) fit, laws .rows (sourcePort t c) source-there .fewBytes)
+
+        module _ {numbers₁ : List ℕ} {l : Letter} (gone : TakesOldest numbers bytes numbers₁ k l) where
+          taken : (l ≡ letterOf (oldest .0)) × PortPut numbers bytes numbers₁ bytes (sourcePort t c) (withQueue source (oldest .1))
+          taken = subst (λ (x : ℕ). TakesOldest numbers bytes numbers₁ x l) found gone (oldest .0) (oldest .1) (oldest .2)
+
+          read : written l ≡ oldest .0
+          read = ap written (taken .0) ∙ written-letter (oldest .0) short
+
+          -- what is carried on fits, and what the source keeps is in range
+          pub source-carried : Carried t c l
+          source-carried = record { short = rw (taken .0) short; fit = rw read fit }
+
+          pub source-held : length numbers₁ ≡ length numbers → Did.Held t lay numbers₁ bytes
+          source-held same = held-put h (taken .1) (left-ranged sourceRow source (oldest .0) (oldest .1) (oldest .2) ranged) same refl
+
+          -- the whole move
+          pub moved : {r : Answer} (time : ℕ) (numbers₂ bytes₂ : List ℕ) → Delivered t time c (written l) numbers₁ bytes numbers₂ bytes₂
+              → r ≡ toldAs (64 + c) nothingTold → Moved t time c r numbers bytes numbers₂ bytes₂
+          unfolding transmit
+          moved {r} time numbers₂ bytes₂ all answered clock modes =
+              subst (λ (x : Reply). Does s x (64 + c) r (shown t clock modes numbers₂ bytes₂)) (sym asked)
+              (record { answered = answered; left = all clock modes ∙ ap₂ (λ m x. delivered t (λ k. time) c m (destinations t c) 0 x) read left })
+            where
+              s : State
+              s = shown t clock modes numbers bytes
+
+              at : port s (sourcePort t c) ≡ source
+              at = port-shown t clock modes numbers bytes (sourcePort t c) source-there
+
+              asked : transmit t (λ k. time) s c ≡ transmitOldest t (λ k. time) s c (oldest .0 ∷ oldest .1)
+              asked = ap (transmitOldest t (λ k. time) s c) (ap (λ q. q .queue) at ∙ oldest .2)
+
+              left : shown t clock modes numbers₁ bytes ≡ withPort s (sourcePort t c) (withQueue (port s (sourcePort t c)) (oldest .1))
+              left = put-shown t clock modes source-there (taken .1) ∙ ap (λ q. withPort s (sourcePort t c) (withQueue q (oldest .1))) (sym at)
+
+      -- and where there is none
+      pub unmoved : {r : Answer} (time : ℕ) → w ≡ 0 → r ≡ refusedAs 1 (64 + c) → Moved t time c r numbers bytes numbers bytes
       unfolding transmit
-      moved {r} time numbers₂ bytes₂ all answered clock modes =
-          subst (λ (x : Reply). Does s x (64 + c) r (shown t clock modes numbers₂ bytes₂)) (sym oldest)
-          (record { answered = answered; left = all clock modes ∙ ap (delivered t (λ k. time) c (written l) (destinations t c) 0) taken })
+      unmoved {r} time none answered clock modes =
+          subst (λ (x : Reply). Does s x (64 + c) r s) (sym asked) (record { answered = answered; left = refl })
         where
           s : State
           s = shown t clock modes numbers bytes
 
-          at : port s (sourcePort t c) ≡ portAt numbers bytes (sourcePort t c)
-          at = port-shown t clock modes numbers bytes (sourcePort t c) source-there
-
-          oldest : transmit t (λ k. time) s c ≡ transmitOldest t (λ k. time) s c (written l ∷ rest)
-          oldest = ap (transmitOldest t (λ k. time) s c) (ap (λ q. q .queue) at ∙ from .whole)
-
-          taken : shown t clock modes numbers₁ bytes ≡ withPort s (sourcePort t c) (withQueue (port s (sourcePort t c)) rest)
-          taken = put-shown t clock modes source-there (from .put) ∙ ap (λ q. withPort s (sourcePort t c) (withQueue q rest)) (sym at)
-
-    -- and where there is none
-    pub unmoved : {r : Answer} (time : ℕ) → getD (Held.rowOf numbers k) 4 0 ≡ 0 → r ≡ refusedAs 1 (64 + c) → Moved t time c r numbers bytes numbers bytes
-    unfolding transmit
-    unmoved {r} time none answered clock modes =
-        subst (λ (x : Reply). Does s x (64 + c) r s) (sym oldest) (record { answered = answered; left = refl })
-      where
-        s : State
-        s = shown t clock modes numbers bytes
-
-        empty : portAt numbers bytes (sourcePort t c) .queue ≡ []
-        empty = subst (λ (x : ℕ). portAt numbers bytes x .queue ≡ []) found (sym (store-queue numbers bytes k) ∙ queue-empty (storeAt numbers bytes k) (store-count numbers bytes k ∙ none))
-
-        oldest : transmit t (λ k. time) s c ≡ transmitOldest t (λ k. time) s c []
-        oldest = ap (transmitOldest t (λ k. time) s c) (ap (λ q. q .queue) (port-shown t clock modes numbers bytes (sourcePort t c) source-there) ∙ empty)
+          asked : transmit t (λ k. time) s c ≡ transmitOldest t (λ k. time) s c []
+          asked =
+              ap (transmitOldest t (λ k. time) s c)
+              (ap (λ q. q .queue) (port-shown t clock modes numbers bytes (sourcePort t c) source-there) ∙ no-message (portAt numbers bytes (sourcePort t c) .queue) (sym held ∙ none))

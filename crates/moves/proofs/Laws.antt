@@ -1,8 +1,8 @@
--- What the proofs of the mover lean on, of one port: the oldest message leaves it, a message arrives at it, it is put in its ranges, and what is shown of it.
+-- What the proofs of the mover lean on, of one port: a message arrives at it, it is put in its ranges, and what is shown of it.
 -- Channels has the laws of a channel and of the whole move.
 -- Assumes nothing.
 use Prim.Native.Nat.{ℕ, _≤_, _<_}
-use mathlib.Core.Path.{_≡_, refl, sym, _∙_, ap, subst}
+use mathlib.Core.Path.{_≡_, refl, sym, _∙_, ap}
 use mathlib.Core.Bool.{Bool, true, false, _||_}
 use mathlib.Core.List.{List, _∷_}
 use mathlib.Core.Logic.{⊎-elim}
@@ -20,72 +20,12 @@ use Rattle.model.proofs.Ranges.{fits, PortRanged}
 use Rattle.model.proofs.Rows.{RowRanges}
 use Rattle.tables.specs.Shown.{rowOf}
 use Rattle.tables.specs.declared.PortRow.{PortRow}
-use Rattle.stores.specs.declared.Store.{Store}
-use Rattle.stores.specs.declared.Letter.{Letter}
-use Rattle.stores.specs.Ring.{Sized, queueOf, written, dropped, oldestOf}
-use Rattle.stores.proofs.Laws.{queue-oldest, oldest-size}
 use Rattle.ports.specs.Held
-use Rattle.ports.specs.Held.{blockOf, storeAt, portIn, portAt, RowPut, PortPut}
-use Rattle.ports.proofs.Rows.{row-again, row-is}
-use Rattle.ports.proofs.Ports.{ports-put, ports-at, port-put, block-kept, put-is, store-queue, store-count, store-lengths, store-bytes}
+use Rattle.ports.specs.Held.{blockOf, portIn, portAt, RowPut, PortPut}
+use Rattle.ports.proofs.Ports.{ports-put, ports-at, port-put, block-kept}
 use Rattle.services.specs.declared.Layout.{Layout}
-use Rattle.services.specs.Served.{Lent}
 use Rattle.services.specs.Did
 use Rattle.services.specs.Did.{shown}
-use Rattle.moves.specs.Moved.{Left}
-
--- ---- the source
-
--- a store that counts a message holds one
-pub some-stored : (numbers bytes : List ℕ) (k : ℕ) → 0 < getD (Held.rowOf numbers k) 4 0 → 0 < storeAt numbers bytes k .count
-some-stored numbers bytes k h = rw (store-count numbers bytes k) h
-
--- the two numbers of a dropped message set in a row
-dropped-row : (numbers bytes : List ℕ) (k : ℕ)
-    → portIn (set (set (Held.rowOf numbers k) 3 (dropped (storeAt numbers bytes k) .oldest)) 4 (dropped (storeAt numbers bytes k) .count)) (blockOf bytes k)
-    ≡ withQueue (portAt numbers bytes k) (queueOf (dropped (storeAt numbers bytes k)))
-unfolding portAt storeAt Held.rowOf dropped
-dropped-row numbers bytes k = refl
-
--- take_oldest: with these two numbers set, the oldest message has left
-module _ (numbers bytes : List ℕ) (k : ℕ) (lent : Lent numbers bytes k) (sized : Sized (storeAt numbers bytes k)) (some : 0 < getD (Held.rowOf numbers k) 4 0) where
-  pub left : {numbers₁ numbers₂ : List ℕ} {o n : ℕ} {l : Letter} → l ≡ oldestOf (storeAt numbers bytes k)
-      → o ≡ dropped (storeAt numbers bytes k) .oldest → n ≡ dropped (storeAt numbers bytes k) .count
-      → RowPut numbers numbers₁ k (set (Held.rowOf numbers k) 3 o) → RowPut numbers₁ numbers₂ k (set (Held.rowOf numbers₁ k) 4 n)
-      → Left numbers bytes numbers₂ k l
-  left {numbers₁} {numbers₂} {o} {n} {l} head oldest count first second =
-      record {
-        short = subst (λ (x : Letter). x .size ≤ 64) (sym head) (oldest-size st wide eight sized (some-stored numbers bytes k some));
-        whole =
-            sym (store-queue numbers bytes k)
-            ∙ queue-oldest st wide eight sized (some-stored numbers bytes k some)
-            ∙ ap (λ m. m ∷ queueOf (dropped st)) (ap written (sym head))
-            ∙ ap (λ q. written l ∷ q) (sym rest);
-        put = put-is gone (ap (withQueue (portAt numbers bytes k)) (sym rest));
-      }
-    where
-      st : Store
-      st = storeAt numbers bytes k
-
-      wide : length (st .bytes) ≡ 512
-      wide = store-bytes numbers bytes k (lent .blocks) (lent .there)
-
-      eight : length (st .lengths) ≡ 8
-      eight = store-lengths numbers bytes k
-
-      turned : RowPut numbers numbers₂ k (set (set (Held.rowOf numbers k) 3 (dropped st .oldest)) 4 (dropped st .count))
-      turned =
-          row-again first
-          (row-is second
-          (ap (λ r. set r 4 n) (first .here)
-          ∙ ap (λ x. set (set (Held.rowOf numbers k) 3 x) 4 n) oldest
-          ∙ ap (λ x. set (set (Held.rowOf numbers k) 3 (dropped st .oldest)) 4 x) count))
-
-      gone : PortPut numbers bytes numbers₂ bytes k (withQueue (portAt numbers bytes k) (queueOf (dropped st)))
-      gone = put-is (port-put turned (block-kept bytes k)) (dropped-row numbers bytes k)
-
-      rest : portAt numbers₂ bytes k .queue ≡ queueOf (dropped st)
-      rest = ap (λ q. q .queue) (gone .here)
 
 -- ---- one destination
 

@@ -9,26 +9,16 @@ use Rattle.services.proofs.Cases.{refuse-as, serve-as, some-message, no
 use borrow.Author.Needs.{needs}
 use Rattle.services.proofs.getting.receive.Statement.{statement}
 use Rattle.services.proofs.getting.receive.Tie as tie
-use Rattle.services.proofs.getting.receive.Reads as reads
-use Rattle.services.proofs.getting.receive.Lts as lts
-use Rattle.events.proofs.refusal.Reads as refusal-reads
-use Rattle.ports.proofs.number.Reads as number-reads
-use Rattle.services.proofs.getting.take_oldest.Reads as take-oldest-reads
-use Rattle.services.proofs.getting.told_message.Reads as told-message-reads
 
--- src/getting.rt:93:8
 number-requires : tie.Need-number-requires
 number-requires c κs = search needs
 
--- src/getting.rt:94:9
 refusal-requires : tie.Need-refusal-requires
 refusal-requires c κs = search needs
 
--- src/getting.rt:94:9
 same-length : tie.Need-same-length
 same-length c = search needs
 
--- src/getting.rt:94:9
 returns : tie.Need-returns
 returns c =
     let a = c .before .before .before .before .before .before .args in
@@ -38,7 +28,6 @@ returns c =
     let none = no-message (q .queue) (sym (count-is n b (a .k)) ∙ sym (c .before .before .number .ensures) ∙ c .before .if1 .taken) in
     refuse-as n b (a .k) (a .doer) 2 (c .refusal .result) (Cases.take-none q none) (c .refusal .ensures)
 
--- src/getting.rt:96:24
 take-oldest-requires : tie.Need-take-oldest-requires
 take-oldest-requires c κs =
     let a = c .before .before .before .before .before .before .args in
@@ -47,15 +36,12 @@ take-oldest-requires c κs =
     let q = portAt n b (a .k) in
     (c .before .before .before .before .before .before .pre, λ z. c .before .if1 .left (c .before .before .number .ensures ∙ count-is n b (a .k) ∙ ap length z))
 
--- src/getting.rt:96:5
 told-message-requires : tie.Need-told-message-requires
 told-message-requires c κs = search needs
 
--- src/getting.rt:89:1
 same-length-2 : tie.Need-same-length-2
 same-length-2 c = search needs
 
--- src/getting.rt:89:1
 returns-2 : tie.Need-returns-2
 returns-2 c =
     let a = c .before .before .before .before .before .before .before .before .before .before .args in
