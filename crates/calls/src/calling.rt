@@ -1,11 +1,9 @@
 // A partition's call: in IDLE 15, else the service of its code.
-ghost use mathlib.Core.Path.{_≡_};
 ghost use Prim.Native.Nat.{_<_};
 ghost use lib.ListN.{length};
-ghost use Rattle.model.specs.State.{Clock};
 ghost use Rattle.model.specs.Services.{service};
 ghost use Rattle.events.specs.Shown.{callOf};
-ghost use Rattle.services.specs.Did.{Held, Does, shown};
+ghost use Rattle.services.specs.Did.{Held};
 ghost use Rattle.calls.specs.Called.{Asked, Calls};
 use super::creating::create;
 use super::creating::get_id;

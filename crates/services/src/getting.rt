@@ -1,16 +1,15 @@
 // A message read, received or cleared at a destination port.
 ghost use mathlib.Core.Path.{_≡_};
 ghost use mathlib.Core.Bool.{true};
-ghost use mathlib.Core.List.{List, [], _∷_};
-ghost use Prim.Native.Nat.{ℕ};
-ghost use Rattle.model.specs.State.{Message, valid, withQueue};
+ghost use mathlib.Core.List.{[]};
+ghost use Rattle.model.specs.State.{Message, valid};
 ghost use Rattle.model.specs.Events.{known};
 ghost use Rattle.model.specs.Answers.{toldMessage};
 ghost use Rattle.model.specs.Services.{mark, readOldest, takeOldest, get, cleared};
 ghost use Rattle.tables.specs.Shown.{rowOf};
 ghost use Rattle.events.specs.Shown.{callOf, toldAs};
 ghost use Rattle.stores.specs.Ring.{Sized, letterOf};
-ghost use Rattle.ports.specs.Held.{storeAt, portAt, PortPut};
+ghost use Rattle.ports.specs.Held.{storeAt, portAt};
 ghost use Rattle.services.specs.Served.{Lent, Fits, Serves, TakesOldest};
 use events::Answer;
 use events::Fields;

@@ -20,19 +20,10 @@ use Rattle.model.specs.Services.{lookUp, made}
 use borrow.Author.Needs.{needs}
 use Rattle.calls.proofs.creating.create.Statement.{statement}
 use Rattle.calls.proofs.creating.create.Tie as tie
-use Rattle.calls.proofs.creating.create.Reads as reads
-use Rattle.calls.proofs.creating.create.Lts as lts
-use Rattle.calls.proofs.creating.make.Reads as make-reads
-use Rattle.calls.proofs.names.look_up.Reads as look-up-reads
-use Rattle.events.proofs.refusal.Reads as refusal-reads
-use Rattle.events.proofs.need.Reads as need-reads
-use Rattle.tables.proofs.port_row.Reads as port-row-reads
 
--- src/creating.rt:88:9
 need-requires : tie.Need-need-requires
 need-requires c κs = search needs
 
--- src/creating.rt:89:9
 look-up-requires : tie.Need-look-up-requires
 look-up-requires c κs =
     let s = c .before .before .before .before .before .before in
@@ -45,11 +36,9 @@ look-up-requires c κs =
     let h = s .pre .0 in
     (Laws.rows-of h, s .pre .1 .0 .whole)
 
--- src/creating.rt:91:9
 refusal-requires : tie.Need-refusal-requires
 refusal-requires c κs = search needs
 
--- src/creating.rt:91:9
 returns : tie.Need-returns
 returns c =
     let s = c .before .before .before .before .before .before .before .before .before .before in
@@ -65,7 +54,6 @@ returns c =
     λ clock. Laws.refused-does (shown t clock (s .args .modes .now) n b) p 4 (c .refusal .result)
     (Laws.create-none t (shown t clock (s .args .modes .now) n b) p e f k found (omega (arith, h .laid .ported, c .before .if1 .taken))) (c .refusal .ensures)
 
--- src/creating.rt:93:35
 add-port-row : tie.Need-add-port-row
 add-port-row c =
     let s = c .before .before .before .before .before .before .before .before .before .before in
@@ -81,7 +69,6 @@ add-port-row c =
     let a = accepted t (h .accepted) in
     record { fits = omega (arith, c .before .if1 .left, h .laid .ported, h .laid .windowed, a .fewWindows, a .fewPorts) }
 
--- src/creating.rt:93:9
 port-row-requires : tie.Need-port-row-requires
 port-row-requires c κs =
     let s = c .before .before .before .before .before .before .before .before .before .before in
@@ -97,11 +84,9 @@ port-row-requires c κs =
     let a = accepted t (h .accepted) in
     omega (arith, c .before .if1 .left, h .laid .ported, h .laid .windowed, a .portsAfter, a .channelsAfter)
 
--- src/creating.rt:94:34
 shared-slice-read-make : tie.Need-shared-slice-read-make
 shared-slice-read-make c = search needs
 
--- src/creating.rt:94:5
 make-requires : tie.Need-make-requires
 make-requires c κs =
     let s = c .before .before .before .before .before .before .before .before .before .before .before .before .before in
@@ -117,11 +102,9 @@ make-requires c κs =
     let a = accepted t (h .accepted) in
     record { rows = h .rows; blocks = h .blocks; there = omega (arith, c .before .before .before .before .if1 .left, h .laid .ported, a .fewPorts) }
 
--- src/creating.rt:73:1
 same-length : tie.Need-same-length
 same-length c = search needs
 
--- src/creating.rt:73:1
 returns-2 : tie.Need-returns-2
 returns-2 c =
     let s = c .before .before .before .before .before .before .before .before .before .before .before .before .before .before .before .before in

@@ -12,27 +12,16 @@ use Rattle.ports.proofs.Marks.{put-created}
 use borrow.Author.Needs.{needs}
 use Rattle.calls.proofs.creating.make.Statement.{statement}
 use Rattle.calls.proofs.creating.make.Tie as tie
-use Rattle.calls.proofs.creating.make.Reads as reads
-use Rattle.calls.proofs.creating.make.Lts as lts
-use Rattle.calls.proofs.creating.like_row.Reads as like-row-reads
-use Rattle.events.proofs.refusal.Reads as refusal-reads
-use Rattle.events.proofs.told_id.Reads as told-id-reads
-use Rattle.ports.proofs.number.Reads as number-reads
-use Rattle.ports.proofs.set_number.Reads as set-number-reads
 
--- src/creating.rt:59:8
 number-requires : tie.Need-number-requires
 number-requires c κs = search needs
 
--- src/creating.rt:60:9
 refusal-requires : tie.Need-refusal-requires
 refusal-requires c κs = search needs
 
--- src/creating.rt:60:9
 same-length : tie.Need-same-length
 same-length c = search needs
 
--- src/creating.rt:60:9
 returns : tie.Need-returns
 returns c =
     let s = c .before .before .before .before .before .before in
@@ -46,19 +35,15 @@ returns c =
     let mark = Laws.created-is n b k in
     refuse-as n b k d 1 (c .refusal .result) (Laws.made-again (k + 1) (s .args .mode) r f q (mark ∙ sym (c .before .before .number .ensures) ∙ c .before .if1 .taken)) (c .refusal .ensures)
 
--- src/creating.rt:62:9
 like-row-requires : tie.Need-like-row-requires
 like-row-requires c κs = search needs
 
--- src/creating.rt:63:9
 refusal-requires-2 : tie.Need-refusal-requires-2
 refusal-requires-2 c κs = search needs
 
--- src/creating.rt:63:9
 same-length-2 : tie.Need-same-length-2
 same-length-2 c = search needs
 
--- src/creating.rt:63:9
 returns-2 : tie.Need-returns-2
 returns-2 c =
     let s = c .before .before .before .before .before .before .before .before in
@@ -72,15 +57,12 @@ returns-2 c =
     let mark = Laws.created-is n b k in
     refuse-as n b k d 4 (c .refusal2 .result) (Laws.made-unlike (k + 1) (s .args .mode) r f q (λ z. c .before .before .before .if1 .left (c .before .before .before .before .number .ensures ∙ sym mark ∙ z)) (sym (c .before .before .like-row .ensures) ∙ not-true _ (c .before .if2 .taken))) (c .refusal2 .ensures)
 
--- src/creating.rt:66:9
 refusal-requires-3 : tie.Need-refusal-requires-3
 refusal-requires-3 c κs = search needs
 
--- src/creating.rt:66:9
 same-length-3 : tie.Need-same-length-3
 same-length-3 c = search needs
 
--- src/creating.rt:66:9
 returns-3 : tie.Need-returns-3
 returns-3 c =
     let s = c .before .before .before .before .before .before .before .before .before in
@@ -94,27 +76,21 @@ returns-3 c =
     let mark = Laws.created-is n b k in
     refuse-as n b k d 5 (c .refusal3 .result) (Laws.made-normal (k + 1) (s .args .mode) r f q (λ z. c .before .before .before .before .if1 .left (c .before .before .before .before .before .number .ensures ∙ sym mark ∙ z)) (sym (c .before .before .before .like-row .ensures) ∙ not-false _ (c .before .before .if2 .left)) (c .before .if3 .taken)) (c .refusal3 .ensures)
 
--- src/creating.rt:68:5
 set-number-requires : tie.Need-set-number-requires
 set-number-requires c κs = search needs
 
--- src/creating.rt:69:28
 add-told-id : tie.Need-add-told-id
 add-told-id c = search needs
 
--- src/creating.rt:69:27
 cast-told-id : tie.Need-cast-told-id
 cast-told-id c = search needs
 
--- src/creating.rt:69:5
 told-id-requires : tie.Need-told-id-requires
 told-id-requires c κs = search needs
 
--- src/creating.rt:47:1
 same-length-4 : tie.Need-same-length-4
 same-length-4 c = search needs
 
--- src/creating.rt:47:1
 returns-4 : tie.Need-returns-4
 returns-4 c =
     let s = c .before .before .before .before .before .before .before .before .before .before .before .before .before in

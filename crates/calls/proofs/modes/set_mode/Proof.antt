@@ -7,27 +7,18 @@ use lib.ListN.{getD, set}
 use Rattle.model.specs.Answers.{nothingTold}
 use mathlib.Core.Logic.{⊎-elim}
 use mathlib.Core.Bool.{false, _&&_, and-false}
-use Rattle.tables.specs.Shown as Shown
 use Rattle.services.specs.Did.{shown}
 use Rattle.calls.proofs.Laws
 use borrow.Author.Needs.{needs}
 use Rattle.calls.proofs.modes.set_mode.Statement.{statement}
 use Rattle.calls.proofs.modes.set_mode.Tie as tie
-use Rattle.calls.proofs.modes.set_mode.Reads as reads
-use Rattle.calls.proofs.modes.set_mode.Lts as lts
-use Rattle.calls.proofs.modes.unmake_all.Reads as unmake-all-reads
-use Rattle.events.proofs.done.Reads as done-reads
-use Rattle.events.proofs.refusal.Reads as refusal-reads
 
--- src/modes.rt:55:16
 slice-read-mode : tie.Need-slice-read-mode
 slice-read-mode c = search needs
 
--- src/modes.rt:57:9
 refusal-requires : tie.Need-refusal-requires
 refusal-requires c κs = search needs
 
--- src/modes.rt:57:9
 returns : tie.Need-returns
 returns c =
     let s = c .before .before .before .before .before .before in
@@ -38,11 +29,9 @@ returns c =
     let m = s .args .m in
     λ b clock. Laws.refused-does (shown t clock ms n b) p 3 (c .refusal .result) (Laws.mode-unknown t (shown t clock ms n b) p m (c .before .if1 .taken)) (c .refusal .ensures)
 
--- src/modes.rt:61:13
 refusal-requires-2 : tie.Need-refusal-requires-2
 refusal-requires-2 c κs = search needs
 
--- src/modes.rt:61:13
 returns-2 : tie.Need-returns-2
 returns-2 c =
     let s = c .before .before .before .before .before .before .before .before in
@@ -53,19 +42,15 @@ returns-2 c =
     let m = s .args .m in
     λ b clock. Laws.refused-does (shown t clock ms n b) p 1 (c .refusal2 .result) (Laws.mode-again t (shown t clock ms n b) p m (c .before .before .if2 .taken) (c .before .if3 .taken)) (c .refusal2 .ensures)
 
--- src/modes.rt:63:9
 slice-write-modes : tie.Need-slice-write-modes
 slice-write-modes c = search needs
 
--- src/modes.rt:64:9
 done-requires : tie.Need-done-requires
 done-requires c κs = search needs
 
--- src/modes.rt:64:9
 same-length : tie.Need-same-length
 same-length c = search needs
 
--- src/modes.rt:64:9
 returns-3 : tie.Need-returns-3
 returns-3 c =
     let s = c .before .before .before .before .before .before .before .before in
@@ -76,11 +61,9 @@ returns-3 c =
     let m = s .args .m in
     λ b clock. Laws.done-does nothingTold (Laws.mode-normal t (shown t clock ms n b) p m (c .before .before .if2 .taken) (c .before .if3 .left)) (c .done .ensures) refl
 
--- src/modes.rt:68:13
 refusal-requires-3 : tie.Need-refusal-requires-3
 refusal-requires-3 c κs = search needs
 
--- src/modes.rt:68:13
 returns-4 : tie.Need-returns-4
 returns-4 c =
     let s = c .before .before .before .before .before .before .before .before .before in
@@ -91,27 +74,21 @@ returns-4 c =
     let m = s .args .m in
     λ b clock. Laws.refused-does (shown t clock ms n b) p 5 (c .refusal3 .result) (Laws.mode-cold t (shown t clock ms n b) p m (c .before .before .if4 .taken) (c .before .if5 .taken)) (c .refusal3 .ensures)
 
--- src/modes.rt:71:5
 slice-write-modes-2 : tie.Need-slice-write-modes-2
 slice-write-modes-2 c = search needs
 
--- src/modes.rt:72:5
 unmake-all-requires : tie.Need-unmake-all-requires
 unmake-all-requires c κs = search needs
 
--- src/modes.rt:73:5
 done-requires-2 : tie.Need-done-requires-2
 done-requires-2 c κs = search needs
 
--- src/modes.rt:42:1
 same-length-2 : tie.Need-same-length-2
 same-length-2 c = search needs
 
--- src/modes.rt:42:1
 same-length-3 : tie.Need-same-length-3
 same-length-3 c = search needs
 
--- src/modes.rt:42:1
 returns-5 : tie.Need-returns-5
 returns-5 c =
     let s = c .before .before .before .before .before .before .before .before .before .before .before .before in

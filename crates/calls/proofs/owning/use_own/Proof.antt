@@ -16,28 +16,18 @@ use Rattle.calls.proofs.Laws
 use borrow.Author.Needs.{needs}
 use Rattle.calls.proofs.owning.use_own.Statement.{statement}
 use Rattle.calls.proofs.owning.use_own.Tie as tie
-use Rattle.calls.proofs.owning.use_own.Reads as reads
-use Rattle.calls.proofs.owning.use_own.Lts as lts
-use Rattle.calls.proofs.owning.own.Reads as own-reads
-use Rattle.events.proofs.refusal.Reads as refusal-reads
-use Rattle.services.proofs.serve.Reads as serve-reads
-use Rattle.tables.proofs.port_row.Reads as port-row-reads
 
--- src/owning.rt:58:9
 own-requires : tie.Need-own-requires
 own-requires c κs =
     let s = c .before .before .before .before .before in
     (Laws.rows-of (s .pre .0), (s .pre .0 .rows, s .pre .1 .coded))
 
--- src/owning.rt:59:9
 refusal-requires : tie.Need-refusal-requires
 refusal-requires c κs = search needs
 
--- src/owning.rt:59:9
 same-length : tie.Need-same-length
 same-length c = search needs
 
--- src/owning.rt:59:9
 returns : tie.Need-returns
 returns c =
     let s = c .before .before .before .before .before .before .before .before in
@@ -51,18 +41,15 @@ returns c =
     λ modes clock. Laws.refused-does (shown t clock modes n b) p 3 (c .refusal .result)
     (Laws.use-refused t (s .args .time) (shown t clock modes n b) p e f (Laws.own-shown t clock modes n b p f ∙ sym (c .before .before .own .ensures) ∙ not-true _ (c .before .if1 .taken))) (c .refusal .ensures)
 
--- src/owning.rt:61:13
 cast-k : tie.Need-cast-k
 cast-k c = search needs
 
--- src/owning.rt:61:13
 sub-k : tie.Need-sub-k
 sub-k c =
     let s = c .before .before .before .before .before .before .before .before in
     let n = s .args .numbers .now in
     Laws.own-some (s .args .t .now) n (s .args .p) (callOf (s .args .f)) (sym (c .before .before .own .ensures) ∙ not-false _ (c .before .if1 .left))
 
--- src/owning.rt:62:35
 add-port-row : tie.Need-add-port-row
 add-port-row c =
     let s = c .before .before .before .before .before .before .before .before .before in
@@ -71,7 +58,6 @@ add-port-row c =
     let there = Laws.own-there t (s .args .numbers .now) (s .args .p) (callOf (s .args .f)) (sym (c .before .before .before .own .ensures) ∙ not-false _ (c .before .before .if1 .left)) in
     record { fits = omega (arith, there, s .pre .0 .laid .windowed, a .fewWindows, a .fewPorts) }
 
--- src/owning.rt:62:9
 port-row-requires : tie.Need-port-row-requires
 port-row-requires c κs =
     let s = c .before .before .before .before .before .before .before .before .before in
@@ -87,7 +73,6 @@ port-row-requires c κs =
     let some = Laws.own-some t n p f (sym (c .before .before .before .own .ensures) ∙ not-false _ (c .before .before .if1 .left)) in
     omega (arith, there, some, h .laid .windowed, a .portsAfter, a .channelsAfter)
 
--- src/owning.rt:63:5
 serve-requires : tie.Need-serve-requires
 serve-requires c κs =
     let s = c .before .before .before .before .before .before .before .before .before .before .before .before in
@@ -101,15 +86,12 @@ serve-requires c κs =
     let there = Laws.own-there t n p f (sym (c .before .before .before .before .before .before .own .ensures) ∙ not-false _ (c .before .before .before .before .before .if1 .left)) in
     (Laws.fits-of h (f .id - 1) there (c .before .before .port-row .result) (c .before .before .port-row .ensures ∙ ap (λ w. Shown.decoded (rowAt t (w + (f .id - 1)))) (h .laid .windowed)), (s .pre .1 .whole, s .pre .1 .coded))
 
--- src/owning.rt:44:1
 same-length-2 : tie.Need-same-length-2
 same-length-2 c = search needs
 
--- src/owning.rt:44:1
 same-length-3 : tie.Need-same-length-3
 same-length-3 c = search needs
 
--- src/owning.rt:44:1
 returns-2 : tie.Need-returns-2
 returns-2 c =
     let s = c .before .before .before .before .before .before .before .before .before .before .before .before .before .before .before .before .before in

@@ -3,7 +3,6 @@ use mathlib.Core.Path.{sym, _∙_, subst}
 use borrow.Author.Tests.{not-true, not-false}
 use Rattle.tables.specs.Shown.{rowOf}
 use Rattle.events.specs.Shown.{callOf}
-use Rattle.ports.specs.Held
 use Rattle.ports.specs.Held.{portAt}
 use Rattle.services.specs.Served.{Serves}
 use Rattle.services.proofs.Laws.{sized-of}

@@ -1,7 +1,6 @@
 -- `services::getting::receive` meets its contract: 2 where the port is empty, else its oldest message. Assumes nothing.
 use mathlib.Core.Path.{sym, _∙_, ap}
 use lib.ListN.{length}
-use Rattle.ports.specs.Held
 use Rattle.ports.specs.Held.{portAt}
 use Rattle.ports.proofs.Ports.{count-is}
 use Rattle.services.proofs.Cases

@@ -13,7 +13,6 @@ use Rattle.ports.proofs.Rows.{row-is}
 use Rattle.ports.proofs.Ports.{put-is, store-queue}
 use Rattle.ports.proofs.Marks.{put-dropped}
 use Rattle.services.proofs.Laws.{some-count, rest-is}
-use Rattle.services.proofs.Cases
 use borrow.Author.Needs.{needs}
 use Rattle.services.proofs.getting.take_oldest.Statement.{statement}
 use Rattle.services.proofs.getting.take_oldest.Tie as tie
