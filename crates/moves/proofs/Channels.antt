@@ -16,12 +16,10 @@ use Rattle.model.specs.Services.{Reply, arrived, delivered, transmitOldest, tra
 use Rattle.model.proofs.Tests.{both-left, between-low, between-high, is-between}
 use Rattle.model.proofs.Ranges.{fits, PortRanged}
 use Rattle.model.proofs.RangesKept.{arrived-ranged}
-use Rattle.model.proofs.Rows.{RowRanges}
 use Rattle.model.proofs.Ends.{DestinationEnd}
 use Rattle.model.proofs.Accepted.{Accepted, accepted}
 use Rattle.tables.specs.Shown.{rowOf, decoded}
 use Rattle.tables.specs.declared.PortRow.{PortRow}
-use Rattle.tables.proofs.Decoded.{shown as row-shown}
 use Rattle.events.specs.declared.answers.Answer.{Answer}
 use Rattle.events.specs.Shown.{refusedAs, toldAs}
 use Rattle.stores.specs.declared.Letter.{Letter}
@@ -29,15 +27,14 @@ use Rattle.stores.specs.Ring.{Sized, written, letterOf}
 use Rattle.stores.proofs.Laws.{written-letter}
 use Rattle.ports.specs.Held
 use Rattle.ports.specs.Held.{storeAt, portAt, PortPut}
-use Rattle.ports.proofs.Ports.{count-is}
 use Rattle.services.specs.declared.Layout.{Layout}
 use Rattle.services.specs.Served.{Lent, Fits, TakesOldest}
 use Rattle.services.specs.Did
 use Rattle.services.specs.Did.{shown, Does}
-use Rattle.services.proofs.Laws.{sized-of}
-use Rattle.services.proofs.Cases.{some-message, no-message}
+use Rattle.services.proofs.Laws.{none-held, some-held, oldest-held}
+use Rattle.services.proofs.Holding.{shown-port, shown-put, row-read, fits-of, sized-at}
 use Rattle.moves.specs.Moved.{Arrived, Carried, Delivered, Moved}
-use Rattle.moves.proofs.Laws.{left-ranged, held-put, port-shown, put-shown}
+use Rattle.moves.proofs.Laws.{left-ranged, held-put}
 
 -- channel c of tables whose ports the lent arrays hold
 module _ {t : Tables} {lay : Layout} {numbers bytes : List ℕ} (h : Did.Held t lay numbers bytes) (c : ℕ) (there : c < lay .channels) where
@@ -67,16 +64,6 @@ module _ {t : Tables} {lay : Layout} {numbers bytes : List ℕ} (h : Did.Held t 
   pub few-destinations : destinations t c ≤ 8
   few-destinations = laws .sources c here .fewEnds
 
-  -- a port of the tables with its row, as a service wants them
-  pub port-fits : (k : ℕ) → k < portCount t → Fits numbers bytes k (decoded (row t k))
-  port-fits k l =
-      let whole = row-shown (row t k) (laws .rows k l) in
-      record {
-        lent = record { rows = h .rows; blocks = h .blocks; there = omega (arith, laws .fewPorts) };
-        ranges = subst RowRanges (sym whole) (laws .rows k l);
-        port = subst (λ (r : Row). PortRanged r (portAt numbers bytes k)) (sym whole) (h .each k l);
-      }
-
   -- destination j, with its row as the reader decodes it
   module _ (j : ℕ) (few : j < destinations t c) where
     end : DestinationEnd t c j
@@ -85,20 +72,17 @@ module _ {t : Tables} {lay : Layout} {numbers bytes : List ℕ} (h : Did.Held t 
     pub its-row : {k : ℕ} → k ≡ destinationPort t c j → lay .windows + k < records t
     its-row e = omega (arith, e, h .laid .windowed, end .there, laws .portsAfter, laws .channelsAfter)
 
-    row-read : {k : ℕ} {r : PortRow} → k ≡ destinationPort t c j → r ≡ decoded (rowAt t (lay .windows + k)) → r ≡ decoded (row t (destinationPort t c j))
-    row-read {k} e read = read ∙ ap (λ i. decoded (rowAt t i)) (omega (arith, e, h .laid .windowed))
+    decoded-row : {k : ℕ} {r : PortRow} → k ≡ destinationPort t c j → r ≡ decoded (rowAt t (lay .windows + k)) → r ≡ decoded (row t (destinationPort t c j))
+    decoded-row {k} e read = read ∙ ap (λ i. decoded (rowAt t i)) (omega (arith, e, h .laid .windowed))
 
     pub destination-fits : {k : ℕ} {r : PortRow} → k ≡ destinationPort t c j → r ≡ decoded (rowAt t (lay .windows + k)) → Fits numbers bytes k r
-    destination-fits {k} {r} e read =
-        subst (λ (x : ℕ). Fits numbers bytes x r) (sym e)
-        (subst (λ (x : PortRow). Fits numbers bytes (destinationPort t c j) x) (sym (row-read e read)) (port-fits (destinationPort t c j) (end .there)))
+    destination-fits {k} {r} e read = subst (λ (x : ℕ). Fits numbers bytes x r) (sym e) (fits-of h (destinationPort t c j) (end .there) r (decoded-row e read))
 
     pub handed : {numbers' bytes' : List ℕ} {k : ℕ} {r : PortRow} (time : ℕ) (m : Message) → k ≡ destinationPort t c j → r ≡ decoded (rowAt t (lay .windows + k))
         → Arrived time (rowOf r) m k numbers bytes numbers' bytes'
         → Arrived time (row t (destinationPort t c j)) m (destinationPort t c j) numbers bytes numbers' bytes'
     handed {numbers'} {bytes'} {k} {r} time m e read p =
-        subst (λ (x : Row). Arrived time x m (destinationPort t c j) numbers bytes numbers' bytes')
-        (ap rowOf (row-read e read) ∙ row-shown (row t (destinationPort t c j)) (laws .rows (destinationPort t c j) (end .there)))
+        subst (λ (x : Row). Arrived time x m (destinationPort t c j) numbers bytes numbers' bytes') (row-read t laws (destinationPort t c j) (end .there) (decoded-row e read))
         (subst (λ (x : ℕ). Arrived time (rowOf r) m x numbers bytes numbers' bytes') e p)
 
     -- what it has got is in range
@@ -132,8 +116,8 @@ module _ {t : Tables} {lay : Layout} {numbers bytes : List ℕ} (h : Did.Held t 
 
         put : shown t clock modes numbers' bytes' ≡ withPort s d (arrived time (row t d) m (port s d))
         put =
-            put-shown t clock modes (end .there) p
-            ∙ ap (λ q. withPort s d (arrived time (row t d) m q)) (sym (port-shown t clock modes numbers bytes d (end .there)))
+            shown-put t clock modes (end .there) p
+            ∙ ap (λ q. withPort s d (arrived time (row t d) m q)) (sym (shown-port t clock modes numbers bytes d (end .there)))
 
   -- the source, whose number the reader has found
   module _ {k : ℕ} (found : k ≡ sourcePort t c) where
@@ -141,19 +125,17 @@ module _ {t : Tables} {lay : Layout} {numbers bytes : List ℕ} (h : Did.Held t 
     source-lent = record { rows = h .rows; blocks = h .blocks; there = omega (arith, found, source-there, laws .fewPorts) }
 
     pub source-sized : Sized (storeAt numbers bytes k)
-    source-sized =
-        subst (λ (x : ℕ). Sized (storeAt numbers bytes x)) (sym found)
-        (sized-of numbers bytes (sourcePort t c) (decoded (row t (sourcePort t c))) (port-fits (sourcePort t c) source-there))
+    source-sized = subst (λ (x : ℕ). Sized (storeAt numbers bytes x)) (sym found) (sized-at h (sourcePort t c) source-there)
 
     -- how many messages it holds
     module _ {w : ℕ} (counted : w ≡ getD (Held.rowOf numbers k) 4 0) where
-      held : w ≡ length (portAt numbers bytes (sourcePort t c) .queue)
-      held = counted ∙ ap (λ x. getD (Held.rowOf numbers x) 4 0) found ∙ count-is numbers bytes (sourcePort t c)
+      held : w ≡ getD (Held.rowOf numbers (sourcePort t c)) 4 0
+      held = counted ∙ ap (λ x. getD (Held.rowOf numbers x) 4 0) found
 
       -- where it holds a message
       module _ (some : w ≡ 0 → ⊥) where
         pub source-some : portAt numbers bytes k .queue ≡ [] → ⊥
-        source-some none = some (counted ∙ count-is numbers bytes k ∙ ap length none)
+        source-some = some-held numbers bytes k counted some
 
         abbrev sourceRow : Row
         sourceRow = row t (sourcePort t c)
@@ -165,7 +147,7 @@ module _ {t : Tables} {lay : Layout} {numbers bytes : List ℕ} (h : Did.Held t 
         ranged = h .each (sourcePort t c) source-there
 
         oldest : (m : Message) × (rest : List Message) × (source .queue ≡ m ∷ rest)
-        oldest = some-message (source .queue) (λ none. some (held ∙ none))
+        oldest = oldest-held numbers bytes (sourcePort t c) held some
 
         -- the oldest fits its row
         fit : fits sourceRow (oldest .0) ≡ true
@@ -200,13 +182,13 @@ module _ {t : Tables} {lay : Layout} {numbers bytes : List ℕ} (h : Did.Held t 
               s = shown t clock modes numbers bytes
 
               at : port s (sourcePort t c) ≡ source
-              at = port-shown t clock modes numbers bytes (sourcePort t c) source-there
+              at = shown-port t clock modes numbers bytes (sourcePort t c) source-there
 
               asked : transmit t (λ k. time) s c ≡ transmitOldest t (λ k. time) s c (oldest .0 ∷ oldest .1)
               asked = ap (transmitOldest t (λ k. time) s c) (ap (λ q. q .queue) at ∙ oldest .2)
 
               left : shown t clock modes numbers₁ bytes ≡ withPort s (sourcePort t c) (withQueue (port s (sourcePort t c)) (oldest .1))
-              left = put-shown t clock modes source-there (taken .1) ∙ ap (λ q. withPort s (sourcePort t c) (withQueue q (oldest .1))) (sym at)
+              left = shown-put t clock modes source-there (taken .1) ∙ ap (λ q. withPort s (sourcePort t c) (withQueue q (oldest .1))) (sym at)
 
       -- and where there is none
       pub unmoved : {r : Answer} (time : ℕ) → w ≡ 0 → r ≡ refusedAs 1 (64 + c) → Moved t time c r numbers bytes numbers bytes
@@ -220,4 +202,4 @@ module _ {t : Tables} {lay : Layout} {numbers bytes : List ℕ} (h : Did.Held t 
           asked : transmit t (λ k. time) s c ≡ transmitOldest t (λ k. time) s c []
           asked =
               ap (transmitOldest t (λ k. time) s c)
-              (ap (λ q. q .queue) (port-shown t clock modes numbers bytes (sourcePort t c) source-there) ∙ no-message (portAt numbers bytes (sourcePort t c) .queue) (sym held ∙ none))
+              (ap (λ q. q .queue) (shown-port t clock modes numbers bytes (sourcePort t c) source-there) ∙ none-held numbers bytes (sourcePort t c) held none)

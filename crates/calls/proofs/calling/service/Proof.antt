@@ -16,9 +16,7 @@ refusal-requires c κs = search needs
 returns : tie.Need-returns
 returns c =
     let a = c .before .before .before .before .before .before .before .before .args in
-    λ clock.
-    let s = shown (a .t .now) clock (a .modes .now) (a .numbers .now) (a .bytes .now) in
-    refused-does s (a .p) 15 (c .refusal .result) (by-idle (a .t .now) (a .time) s (a .p) (a .event .now) (callOf (a .f)) (c .before .if1 .taken)) (c .refusal .ensures)
+    λ clock. rw (by-idle (a .t .now) (a .time) (shown (a .t .now) clock (a .modes .now) (a .numbers .now) (a .bytes .now)) (a .p) (a .event .now) (callOf (a .f)) (c .before .if1 .taken)) (refused-does (c .refusal .ensures))
 
 create-requires : tie.Need-create-requires
 create-requires c κs = search needs

@@ -1,10 +1,8 @@
 -- `calls::modes::set_mode` meets its contract: the tests in their order, then the mode and the sweep. Assumes nothing.
-use Prim.Native.Nat.{_-_}
 use mathlib.Core.Path.{_≡_, refl, ap}
 use borrow.Author.Tests.{ne-eqb}
 use lib.Dec.{eqb}
 use lib.ListN.{getD, set}
-use Rattle.model.specs.Answers.{nothingTold}
 use mathlib.Core.Logic.{⊎-elim}
 use mathlib.Core.Bool.{false, _&&_, and-false}
 use Rattle.services.specs.Did.{shown}
@@ -27,7 +25,7 @@ returns c =
     let n = s .args .numbers .now in
     let p = s .args .p in
     let m = s .args .m in
-    λ b clock. Laws.refused-does (shown t clock ms n b) p 3 (c .refusal .result) (Laws.mode-unknown t (shown t clock ms n b) p m (c .before .if1 .taken)) (c .refusal .ensures)
+    λ b clock. rw (Laws.mode-unknown t (shown t clock ms n b) p m (c .before .if1 .taken)) (Laws.refused-does (c .refusal .ensures))
 
 refusal-requires-2 : tie.Need-refusal-requires-2
 refusal-requires-2 c κs = search needs
@@ -40,7 +38,7 @@ returns-2 c =
     let n = s .args .numbers .now in
     let p = s .args .p in
     let m = s .args .m in
-    λ b clock. Laws.refused-does (shown t clock ms n b) p 1 (c .refusal2 .result) (Laws.mode-again t (shown t clock ms n b) p m (c .before .before .if2 .taken) (c .before .if3 .taken)) (c .refusal2 .ensures)
+    λ b clock. rw (Laws.mode-again t (shown t clock ms n b) p m (c .before .before .if2 .taken) (c .before .if3 .taken)) (Laws.refused-does (c .refusal2 .ensures))
 
 slice-write-modes : tie.Need-slice-write-modes
 slice-write-modes c = search needs
@@ -59,7 +57,7 @@ returns-3 c =
     let n = s .args .numbers .now in
     let p = s .args .p in
     let m = s .args .m in
-    λ b clock. Laws.done-does nothingTold (Laws.mode-normal t (shown t clock ms n b) p m (c .before .before .if2 .taken) (c .before .if3 .left)) (c .done .ensures) refl
+    λ b clock. rw (Laws.mode-normal t (shown t clock ms n b) p m (c .before .before .if2 .taken) (c .before .if3 .left)) (record { answered = c .done .ensures; left = refl })
 
 refusal-requires-3 : tie.Need-refusal-requires-3
 refusal-requires-3 c κs = search needs
@@ -72,7 +70,7 @@ returns-4 c =
     let n = s .args .numbers .now in
     let p = s .args .p in
     let m = s .args .m in
-    λ b clock. Laws.refused-does (shown t clock ms n b) p 5 (c .refusal3 .result) (Laws.mode-cold t (shown t clock ms n b) p m (c .before .before .if4 .taken) (c .before .if5 .taken)) (c .refusal3 .ensures)
+    λ b clock. rw (Laws.mode-cold t (shown t clock ms n b) p m (c .before .before .if4 .taken) (c .before .if5 .taken)) (Laws.refused-does (c .refusal3 .ensures))
 
 slice-write-modes-2 : tie.Need-slice-write-modes-2
 slice-write-modes-2 c = search needs
@@ -100,8 +98,7 @@ returns-5 c =
     let other : (eqb m 2 && eqb (getD ms p 0) 1) ≡ false =
     ⊎-elim (λ w. (rw (ne-eqb (getD ms p 0) 1 (w .1 .left)) (and-false (eqb m 2)))) (λ w. rw (ne-eqb m 2 (w .left))) (c .before .before .before .before .before .if4 .came)
     in
-    λ b clock. Laws.done-does nothingTold (Laws.mode-start t (shown t clock ms n b) p m (c .before .before .before .before .before .before .before .if1 .left) (c .before .before .before .before .before .before .if2 .left) other) (c .done2 .ensures)
-    (ap (λ ps. record { clock = clock; modes = set ms p m; ports = ps }) (c .before .before .before .unmake-all .ensures b))
+    λ b clock. rw (Laws.mode-start t (shown t clock ms n b) p m (c .before .before .before .before .before .before .before .if1 .left) (c .before .before .before .before .before .before .if2 .left) other) (record { answered = c .done2 .ensures; left = ap (λ ps. record { clock = clock; modes = set ms p m; ports = ps }) (c .before .before .before .unmake-all .ensures b) })
 
 pub set-mode-spec : {M : Type 1} → statement M
 set-mode-spec =

@@ -35,8 +35,6 @@ unmake-requires : tie.Need-unmake-requires Inv-loop μ-loop
 unmake-requires c κs =
     let s = c .before .before .before .before .before .before .before .before .before in
     let t = s .args .t .now in
-    let p = s .args .p in
-    let n = s .args .numbers .now in
     let l = c .before .before .before .before .before .before .loop in
     let inside : l .k < ports t = omega (arith, s .pre .0 .laid .ported, c .before .before .before .before .if1 .taken) in
     (l .inv .1 ∙ s .pre .1, omega (arith, inside, s .pre .0 .few))

@@ -1,8 +1,6 @@
 -- `calls::owning::own` meets its contract: the tests in their order. Assumes nothing.
-use Prim.Native.Nat.{_-_}
 use mathlib.Core.Path.{sym, _∙_, ap}
 use native.Mathlib.Omega.{arith}
-use Rattle.model.specs.Events.{need}
 use Rattle.events.specs.Shown.{callOf}
 use Rattle.calls.proofs.Laws
 use borrow.Author.Needs.{needs}
@@ -19,8 +17,6 @@ returns c =
     let n = s .args .numbers .now in
     let p = s .args .p in
     let f = callOf (s .args .f) in
-    let w = s .pre .0 .laid .windowed in
-    let m = s .pre .0 .laid .ported in
     sym (Laws.own-none t n p f (omega (arith, c .if1 .taken)))
 
 returns-2 : tie.Need-returns-2
@@ -30,7 +26,6 @@ returns-2 c =
     let n = s .args .numbers .now in
     let p = s .args .p in
     let f = callOf (s .args .f) in
-    let w = s .pre .0 .laid .windowed in
     let m = s .pre .0 .laid .ported in
     sym (Laws.own-past t n p f (omega (arith, c .before .before .if1 .left)) (omega (arith, m, c .if2 .taken)))
 

@@ -9,10 +9,12 @@ use Rattle.model.specs.Services.{serve}
 use Rattle.model.proofs.Accepted.{accepted}
 use Rattle.tables.specs.Shown as Shown
 use Rattle.events.specs.Shown.{callOf}
-use Rattle.ports.specs.Held.{rowOf, portAt}
-use Rattle.services.specs.Did.{Does, shown}
+use Rattle.ports.specs.Held.{portAt}
+use Rattle.services.specs.Did.{shown}
 use Rattle.services.specs.Served.{Serves}
+use Rattle.services.proofs.Holding.{fits-of, row-read, shown-port}
 use Rattle.calls.proofs.Laws
+use Rattle.calls.proofs.Laws.{refused-does}
 use borrow.Author.Needs.{needs}
 use Rattle.calls.proofs.owning.use_own.Statement.{statement}
 use Rattle.calls.proofs.owning.use_own.Tie as tie
@@ -37,9 +39,7 @@ returns c =
     let p = s .args .p in
     let e = s .args .event .now in
     let f = callOf (s .args .f) in
-    let h = s .pre .0 in
-    λ modes clock. Laws.refused-does (shown t clock modes n b) p 3 (c .refusal .result)
-    (Laws.use-refused t (s .args .time) (shown t clock modes n b) p e f (Laws.own-shown t clock modes n b p f ∙ sym (c .before .before .own .ensures) ∙ not-true _ (c .before .if1 .taken))) (c .refusal .ensures)
+    λ modes clock. rw (Laws.use-refused t (s .args .time) (shown t clock modes n b) p e f (Laws.own-shown t clock modes n b p f ∙ sym (c .before .before .own .ensures) ∙ not-true _ (c .before .if1 .taken))) (refused-does (c .refusal .ensures))
 
 cast-k : tie.Need-cast-k
 cast-k c = search needs
@@ -63,9 +63,7 @@ port-row-requires c κs =
     let s = c .before .before .before .before .before .before .before .before .before in
     let t = s .args .t .now in
     let n = s .args .numbers .now in
-    let b = s .args .bytes .now in
     let p = s .args .p in
-    let e = s .args .event .now in
     let f = callOf (s .args .f) in
     let h = s .pre .0 in
     let a = accepted t (h .accepted) in
@@ -78,13 +76,11 @@ serve-requires c κs =
     let s = c .before .before .before .before .before .before .before .before .before .before .before .before in
     let t = s .args .t .now in
     let n = s .args .numbers .now in
-    let b = s .args .bytes .now in
     let p = s .args .p in
-    let e = s .args .event .now in
     let f = callOf (s .args .f) in
     let h = s .pre .0 in
     let there = Laws.own-there t n p f (sym (c .before .before .before .before .before .before .own .ensures) ∙ not-false _ (c .before .before .before .before .before .if1 .left)) in
-    (Laws.fits-of h (f .id - 1) there (c .before .before .port-row .result) (c .before .before .port-row .ensures ∙ ap (λ w. Shown.decoded (rowAt t (w + (f .id - 1)))) (h .laid .windowed)), (s .pre .1 .whole, s .pre .1 .coded))
+    (fits-of h (f .id - 1) there (c .before .before .port-row .result) (c .before .before .port-row .ensures ∙ ap (λ w. Shown.decoded (rowAt t (w + (f .id - 1)))) (h .laid .windowed)), (s .pre .1 .whole, s .pre .1 .coded))
 
 same-length-2 : tie.Need-same-length-2
 same-length-2 c = search needs
@@ -106,15 +102,14 @@ returns-2 c =
     let owns = sym (c .before .before .before .before .before .before .before .before .before .before .before .own .ensures) ∙ not-false _ (c .before .before .before .before .before .before .before .before .before .before .if1 .left) in
     let there = Laws.own-there t n p f owns in
     let r = Shown.rowOf (c .before .before .before .before .before .before .before .port-row .result) in
-    let shows = ap Shown.rowOf (c .before .before .before .before .before .before .before .port-row .ensures ∙ ap (λ w. Shown.decoded (rowAt t (w + k))) (h .laid .windowed)) ∙ Laws.row-shown t (accepted t (h .accepted)) k there in
+    let shows = row-read t (accepted t (h .accepted)) k there (c .before .before .before .before .before .before .before .port-row .ensures ∙ ap (λ w. Shown.decoded (rowAt t (w + k))) (h .laid .windowed)) in
     λ modes clock.
     let st = shown t clock modes n b in
     let served = serve (s .args .time) (row t k) e f (port st k) in
     let same : serve (s .args .time) r e f (portAt n b k) ≡ served =
-    ap₂ (λ x q. serve (s .args .time) x e f q) shows (sym (Laws.shown-port t clock modes n b k there))
+    ap₂ (λ x q. serve (s .args .time) x e f q) shows (sym (shown-port t clock modes n b k there))
     in
-    subst (λ x. Does st x p (c .before .before .before .before .serve .result) (shown t clock modes (c .before .before .before .before .serve .last .0) (c .before .before .before .before .serve .last .1 .0)))
-    (sym (Laws.use-served t (s .args .time) st p e f (Laws.own-shown t clock modes n b p f ∙ owns)))
+    rw (Laws.use-served t (s .args .time) st p e f (Laws.own-shown t clock modes n b p f ∙ owns))
     (Laws.serves-does t clock modes n b (c .before .before .before .before .serve .last .0) (c .before .before .before .before .serve .last .1 .0) k p (c .before .before .before .before .serve .result) served there
     (subst (Serves n b (c .before .before .before .before .serve .last .0) (c .before .before .before .before .serve .last .1 .0) k p (c .before .before .before .before .serve .result)) same (c .before .before .before .before .serve .ensures)))
 

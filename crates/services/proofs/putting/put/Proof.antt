@@ -12,7 +12,7 @@ use Rattle.stores.specs.Ring.{written}
 use Rattle.ports.specs.Held.{portAt}
 use Rattle.ports.proofs.Ports.{put-is}
 use Rattle.services.proofs.Laws.{few-written, written-back}
-use Rattle.services.proofs.Cases.{refuse-as, serve-as, put-empty, put-long, put-wrong, put-stored}
+use Rattle.services.proofs.Cases.{kept, put-empty, put-long, put-wrong, put-stored}
 use borrow.Author.Needs.{needs}
 use Rattle.services.proofs.putting.put.Statement.{statement}
 use Rattle.services.proofs.putting.put.Tie as tie
@@ -23,11 +23,7 @@ refusal-requires c κs = search needs
 returns : tie.Need-returns
 returns c =
     let a = c .before .before .before .before .before .before .args in
-    let r = rowOf (a .row) in
-    let e = a .event .now in
-    let f = callOf (a .f) in
-    let q = portAt (a .numbers .now) (a .bytes .now) (a .k) in
-    refuse-as (a .numbers .now) (a .bytes .now) (a .k) (a .doer) 3 (c .refusal .result) (put-empty r e f q (c .before .if1 .taken)) (c .refusal .ensures)
+    rw (put-empty _ _ (callOf (a .f)) _ (c .before .if1 .taken)) (kept (c .refusal .ensures))
 
 refusal-requires-2 : tie.Need-refusal-requires-2
 refusal-requires-2 c κs = search needs
@@ -35,11 +31,7 @@ refusal-requires-2 c κs = search needs
 returns-2 : tie.Need-returns-2
 returns-2 c =
     let a = c .before .before .before .before .before .before .before .before .before .args in
-    let r = rowOf (a .row) in
-    let e = a .event .now in
-    let f = callOf (a .f) in
-    let q = portAt (a .numbers .now) (a .bytes .now) (a .k) in
-    refuse-as (a .numbers .now) (a .bytes .now) (a .k) (a .doer) 4 (c .refusal2 .result) (put-long r e f q (c .before .before .before .before .if1 .left) (c .before .if2 .taken)) (c .refusal2 .ensures)
+    rw (put-long (rowOf (a .row)) _ (callOf (a .f)) _ (c .before .before .before .before .if1 .left) (c .before .if2 .taken)) (kept (c .refusal2 .ensures))
 
 directed-requires : tie.Need-directed-requires
 directed-requires c κs = search needs
@@ -50,12 +42,7 @@ refusal-requires-3 c κs = search needs
 returns-3 : tie.Need-returns-3
 returns-3 c =
     let a = c .before .before .before .before .before .before .before .before .before .before .before .args in
-    let r = rowOf (a .row) in
-    let e = a .event .now in
-    let f = callOf (a .f) in
-    let q = portAt (a .numbers .now) (a .bytes .now) (a .k) in
-    refuse-as (a .numbers .now) (a .bytes .now) (a .k) (a .doer) 5 (c .refusal3 .result)
-    (put-wrong r e f q (c .before .before .before .before .before .before .if1 .left) (c .before .before .before .if2 .left) (sym (c .before .before .directed .ensures) ∙ not-true _ (c .before .if3 .taken))) (c .refusal3 .ensures)
+    rw (put-wrong (rowOf (a .row)) _ (callOf (a .f)) _ (c .before .before .before .before .before .before .if1 .left) (c .before .before .before .if2 .left) (sym (c .before .before .directed .ensures) ∙ not-true _ (c .before .if3 .taken))) (kept (c .refusal3 .ensures))
 
 letter-of-requires : tie.Need-letter-of-requires
 letter-of-requires c κs =
@@ -85,8 +72,7 @@ returns-4 c =
     let q = portAt (a .numbers .now) (a .bytes .now) (a .k) in
     let few = c .before .before .before .before .before .before .before .before .before .before .before .before .before .before .before .before .before .before .before .pre .0 .ranges .fewBytes in
     let long : a .f .size ≤ 64 = omega (arith, c .before .before .before .before .before .before .before .before .before .before .before .if2 .left, few) in
-    serve-as (a .doer) (put-stored r e f q (c .before .before .before .before .before .before .before .before .before .before .before .before .before .before .if1 .left) (c .before .before .before .before .before .before .before .before .before .before .before .if2 .left) (sym (c .before .before .before .before .before .before .before .before .before .before .directed .ensures) ∙ not-false _ (c .before .before .before .before .before .before .before .before .before .if3 .left))) (c .done .ensures)
-    (put-is (c .before .before .before .before .before .store .ensures) (ap (λ m. withQueue q (stored r (q .queue) m)) (ap written (c .before .before .before .before .before .before .before .before .letter-of .ensures) ∙ written-back e (a .f .size) long)))
+    rw (put-stored r e f q (c .before .before .before .before .before .before .before .before .before .before .before .before .before .before .if1 .left) (c .before .before .before .before .before .before .before .before .before .before .before .if2 .left) (sym (c .before .before .before .before .before .before .before .before .before .before .directed .ensures) ∙ not-false _ (c .before .before .before .before .before .before .before .before .before .if3 .left))) (c .done .ensures, put-is (c .before .before .before .before .before .store .ensures) (ap (λ m. withQueue q (stored r (q .queue) m)) (ap written (c .before .before .before .before .before .before .before .before .letter-of .ensures) ∙ written-back e (a .f .size) long)))
 
 pub put-spec : {M : Type 1} → statement M
 put-spec =

@@ -1,8 +1,7 @@
 -- `services::telling::serve` meets its contract, by code. Assumes nothing.
-use Rattle.tables.specs.Shown.{rowOf}
 use Rattle.events.specs.Shown.{callOf}
 use Rattle.ports.proofs.Ports.{put-kept}
-use Rattle.services.proofs.Cases.{serve-as, serve-put, serve-get, serve-clear, serve-status}
+use Rattle.services.proofs.Cases.{serve-put, serve-get, serve-clear, serve-status}
 use borrow.Author.Needs.{needs}
 use Rattle.services.proofs.telling.serve.Statement.{statement}
 use Rattle.services.proofs.telling.serve.Tie as tie
@@ -28,7 +27,7 @@ same-length-2 c = search needs
 returns : tie.Need-returns
 returns c =
     let a = c .before .before .before .before .before .before .before .before .before .before .before .args in
-    rw (serve-put (a .time) (rowOf (a .row)) (a .event .now) (callOf (a .f)) _ (c .before .before .before .before .before .before .before .match .keys1)) (c .before .before .before .before .put .ensures)
+    rw (serve-put _ _ _ (callOf (a .f)) _ (c .before .before .before .before .before .before .before .match .keys1)) (c .before .before .before .before .put .ensures)
 
 same-length-3 : tie.Need-same-length-3
 same-length-3 c = search needs
@@ -39,7 +38,7 @@ same-length-4 c = search needs
 returns-2 : tie.Need-returns-2
 returns-2 c =
     let a = c .before .before .before .before .before .before .before .before .before .args in
-    rw (serve-get (a .time) (rowOf (a .row)) (a .event .now) (callOf (a .f)) _ (c .before .before .before .before .before .match .keys2)) (c .before .before .get .ensures)
+    rw (serve-get _ _ _ (callOf (a .f)) _ (c .before .before .before .before .before .match .keys2)) (c .before .before .get .ensures)
 
 same-length-5 : tie.Need-same-length-5
 same-length-5 c = search needs
@@ -50,7 +49,7 @@ same-length-6 c = search needs
 returns-3 : tie.Need-returns-3
 returns-3 c =
     let a = c .before .before .before .before .before .before .before .before .before .args in
-    rw (serve-clear (a .time) (rowOf (a .row)) (a .event .now) (callOf (a .f)) _ (c .before .before .before .before .before .match .keys3)) (c .before .before .clear .ensures)
+    rw (serve-clear _ _ _ (callOf (a .f)) _ (c .before .before .before .before .before .match .keys3)) (c .before .before .clear .ensures)
 
 same-length-7 : tie.Need-same-length-7
 same-length-7 c = search needs
@@ -62,7 +61,7 @@ returns-4 : tie.Need-returns-4
 returns-4 c =
     let a = c .before .before .before .before .before .before .before .args in
     let rest = c .before .before .before .match .rest in
-    serve-as (a .doer) (serve-status (a .time) (rowOf (a .row)) (a .event .now) (callOf (a .f)) _ (rest .0 .0 .1) (rest .0 .1) (rest .1)) (c .status .ensures) (put-kept (a .numbers .now) (a .bytes .now) (a .k))
+    rw (serve-status _ _ _ (callOf (a .f)) _ (rest .0 .0 .1) (rest .0 .1) (rest .1)) (c .status .ensures, put-kept (a .numbers .now) (a .bytes .now) (a .k))
 
 pub serve-spec : {M : Type 1} → statement M
 serve-spec =

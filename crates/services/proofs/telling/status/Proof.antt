@@ -22,7 +22,6 @@ cast-a c =
     let a = c .before .before .before .before .before .before .before .args in
     let n = a .numbers .now in
     let b = a .bytes .now in
-    let q = portAt n b (a .k) in
     record { fits = omega (arith, c .number .ensures, validity-is n b (a .k), c .before .before .before .before .before .before .before .pre .port .judged) }
 
 enum-known-transfer-2 : tie.Need-enum-known-transfer-2
