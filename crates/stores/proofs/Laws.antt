@@ -12,7 +12,7 @@ use Rattle.model.specs.Words.{filled}
 use Rattle.model.specs.State.{Message}
 use Rattle.stores.specs.declared.Letter.{Letter}
 use Rattle.stores.specs.declared.Store.{Store}
-use Rattle.stores.specs.Ring.{slotOf, messageIn, messagesFrom, queueOf, written, letterOf, pasted, appended, dropped, oldestOf, noMessages, allFilled, layOut, Sized, Short}
+use Rattle.stores.specs.Ring.{slotOf, messageIn, messagesFrom, queueOf, written, letterOf, pasted, appended, dropped, oldestOf, noMessages, allFilled, layOut, Short}
 use Rattle.stores.proofs.Lists.{pasted-one, length-filled, take-filled, filled-append}
 use Rattle.stores.proofs.Slots.{placed, messages-length, messages-at, messages-same, messages-last, message-kept, message-stored}
 
@@ -59,12 +59,6 @@ oldest-head st some m q holds =
 module _ (st : Store) (wide : length (st .bytes) ≡ 512) (eight : length (st .lengths) ≡ 8) where
   pub message-length : (slot : ℕ) → length (messageIn st slot) ≡ getD (st .lengths) slot 0
   message-length slot = length-filled (getD (st .lengths) slot 0) (take 64 (drop (64 * slot) (st .bytes)))
-
-  pub queue-short : Sized st → Short (queueOf st)
-  queue-short sized i h =
-      let stored : i < st .count = omega (arith, queue-length st) in
-      let fits : getD (st .lengths) (slotOf st i) 0 ≤ 64 = sized .short i stored in
-      rw (queue-at st i stored, message-length (slotOf st i)) fits
 
   -- one letter more: the queue grows by its message
   module _ (l : Letter) (whole : length (l .bytes) ≡ 64) (room : st .count < 8) where
