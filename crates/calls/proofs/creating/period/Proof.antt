@@ -1,7 +1,5 @@
 -- `calls::creating::period` meets its contract, by the case of the row. Assumes nothing.
-use Prim.Native.Nat.{_-_}
 use mathlib.Core.Path.{sym}
-use Rattle.model.specs.Tables.{row}
 use Rattle.calls.proofs.Laws
 use borrow.Author.Needs.{needs}
 use Rattle.calls.proofs.creating.period.Statement.{statement}

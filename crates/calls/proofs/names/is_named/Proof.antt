@@ -1,5 +1,4 @@
 -- `calls::names::is_named` meets its contract: the tests in their order. Assumes nothing.
-use Prim.Native.Nat.{_-_}
 use mathlib.Core.Path.{sym, _∙_}
 use Rattle.calls.proofs.LookUp.{not-owner, not-mode, by-name}
 use borrow.Author.Needs.{needs}

@@ -3,7 +3,6 @@ use Prim.Native.Nat.{_≤_, _<_}
 use mathlib.Core.Path.{sym, _∙_, ap, subst}
 use lib.ListN.{getD, set}
 use Rattle.model.specs.State.{withQueue}
-use Rattle.tables.specs.Shown.{rowOf}
 use Rattle.stores.specs.declared.Store.{Store}
 use Rattle.stores.specs.Ring.{slotOf, dropped, oldestOf}
 use Rattle.stores.proofs.Laws.{oldest-head}
