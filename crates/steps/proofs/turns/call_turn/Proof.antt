@@ -27,14 +27,7 @@ refusal-requires c κs = search needs
 returns : tie.Need-returns
 returns c =
     let s = c .before .before .before .before .before .before .before .before in
-    let t = s .args .t .now in
-    let ms = s .args .modes .now in
-    let n = s .args .numbers .now in
-    let b = s .args .bytes .now in
-    let e = s .args .event .now in
-    let k = s .args .clock in
-    let st = shown t (clockOf k) ms n b in
-    Laws.acts (Laws.at-mover-call t st e (callOf (s .args .f)) (s .pre .1 .1) (sym (c .before .before .window-partition .ensures) ∙ c .before .if1 .taken)) (refused-does (c .refusal .ensures))
+    Laws.acts (Laws.at-mover-call (s .args .t .now) _ (s .args .event .now) (callOf (s .args .f)) (s .pre .1 .1) (sym (c .before .before .window-partition .ensures) ∙ c .before .if1 .taken)) (refused-does (c .refusal .ensures))
 
 service-requires : tie.Need-service-requires
 service-requires c κs =

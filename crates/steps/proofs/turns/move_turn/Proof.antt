@@ -3,7 +3,6 @@ use mathlib.Core.Path.{sym, _∙_}
 use native.Mathlib.Omega.{arith}
 use borrow.Author.Needs.{needs}
 use Rattle.model.proofs.Accepted.{accepted}
-use Rattle.services.specs.Did.{shown}
 use Rattle.calls.proofs.Laws.{refused-does}
 use Rattle.steps.specs.Stepped.{clockOf}
 use Rattle.steps.proofs.Laws
@@ -25,14 +24,7 @@ refusal-requires c κs = search needs
 returns : tie.Need-returns
 returns c =
     let s = c .before .before .before .before .before .before .before .before in
-    let t = s .args .t .now in
-    let ms = s .args .modes .now in
-    let n = s .args .numbers .now in
-    let b = s .args .bytes .now in
-    let e = s .args .event .now in
-    let k = s .args .clock in
-    let st = shown t (clockOf k) ms n b in
-    Laws.acts (Laws.at-partition-move t st e (s .args .c) (s .pre .1) (λ z. c .before .if1 .taken (c .before .before .window-partition .ensures ∙ z))) (refused-does (c .refusal .ensures))
+    Laws.acts (Laws.at-partition-move (s .args .t .now) _ (s .args .event .now) (s .args .c) (s .pre .1) (λ z. c .before .if1 .taken (c .before .before .window-partition .ensures ∙ z))) (refused-does (c .refusal .ensures))
 
 refusal-requires-2 : tie.Need-refusal-requires-2
 refusal-requires-2 c κs = search needs
@@ -40,15 +32,7 @@ refusal-requires-2 c κs = search needs
 returns-2 : tie.Need-returns-2
 returns-2 c =
     let s = c .before .before .before .before .before .before .before .before .before .before in
-    let t = s .args .t .now in
-    let ms = s .args .modes .now in
-    let n = s .args .numbers .now in
-    let b = s .args .bytes .now in
-    let e = s .args .event .now in
-    let k = s .args .clock in
-    let h = s .pre .0 in
-    let st = shown t (clockOf k) ms n b in
-    Laws.acts (Laws.at-no-channel t st e (s .args .c) (s .pre .1) (sym (c .before .before .before .before .window-partition .ensures) ∙ c .before .before .before .if1 .left) (omega (arith, h .held .laid .channelled, c .before .if2 .taken))) (refused-does (c .refusal2 .ensures))
+    Laws.acts (Laws.at-no-channel (s .args .t .now) _ (s .args .event .now) (s .args .c) (s .pre .1) (sym (c .before .before .before .before .window-partition .ensures) ∙ c .before .before .before .if1 .left) (omega (arith, s .pre .0 .held .laid .channelled, c .before .if2 .taken))) (refused-does (c .refusal2 .ensures))
 
 transmit-requires : tie.Need-transmit-requires
 transmit-requires c κs =
@@ -64,15 +48,7 @@ same-length-2 c = search needs
 returns-3 : tie.Need-returns-3
 returns-3 c =
     let s = c .before .before .before .before .before .before .before .before .before .before .before .before .before .before .before .before in
-    let t = s .args .t .now in
-    let ms = s .args .modes .now in
-    let n = s .args .numbers .now in
-    let b = s .args .bytes .now in
-    let e = s .args .event .now in
-    let k = s .args .clock in
-    let h = s .pre .0 in
-    let st = shown t (clockOf k) ms n b in
-    Laws.acts (Laws.at-move t st e (s .args .c) (s .pre .1) (sym (c .before .before .before .before .before .before .before .before .before .before .window-partition .ensures) ∙ c .before .before .before .before .before .before .before .before .before .if1 .left) (omega (arith, h .held .laid .channelled, c .before .before .before .before .before .before .before .if2 .left))) (c .before .before .before .before .transmit .ensures (clockOf k) ms)
+    Laws.acts (Laws.at-move (s .args .t .now) _ (s .args .event .now) (s .args .c) (s .pre .1) (sym (c .before .before .before .before .before .before .before .before .before .before .window-partition .ensures) ∙ c .before .before .before .before .before .before .before .before .before .if1 .left) (omega (arith, s .pre .0 .held .laid .channelled, c .before .before .before .before .before .before .before .if2 .left))) (c .before .before .before .before .transmit .ensures (clockOf (s .args .clock)) (s .args .modes .now))
 
 pub move-turn-spec : {M : Type 1} → statement M
 move-turn-spec =

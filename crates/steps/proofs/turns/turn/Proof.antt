@@ -2,7 +2,6 @@
 use mathlib.Core.Path.{sym, _∙_, ap}
 use borrow.Author.Needs.{needs}
 use Rattle.events.specs.Shown.{askedOf}
-use Rattle.services.specs.Did.{shown}
 use Rattle.calls.proofs.Laws.{refused-does}
 use Rattle.steps.specs.Stepped.{clockOf}
 use Rattle.steps.proofs.Laws
@@ -51,10 +50,8 @@ returns c =
     let ms = s .args .modes .now in
     let n = s .args .numbers .now in
     let b = s .args .bytes .now in
-    let e = s .args .event .now in
     let k = s .args .clock in
-    let st = shown t (clockOf k) ms n b in
-    Laws.acts (Laws.at-clock t st e (sym (c .before .before .before .before .decode .ensures) ∙ ap askedOf (c .before .before .enum-told .given .1))) (Laws.schedule-does t (clockOf k) (clockOf (c .before .tick .result)) ms n b (c .told-number .result) (c .before .tick .ensures) (c .told-number .ensures))
+    Laws.acts (Laws.at-clock (s .args .t .now) _ (s .args .event .now) (sym (c .before .before .before .before .decode .ensures) ∙ ap askedOf (c .before .before .enum-told .given .1))) (Laws.schedule-does t (clockOf k) (clockOf (c .before .tick .result)) ms n b (c .told-number .result) (c .before .tick .ensures) (c .told-number .ensures))
 
 same-length : tie.Need-same-length
 same-length c = search needs
@@ -83,14 +80,7 @@ returns-3 c = c .before .before .before .before .move-turn .ensures
 returns-4 : tie.Need-returns-4
 returns-4 c =
     let s = c .before .before .before .before .before .before .before .before .before in
-    let t = s .args .t .now in
-    let ms = s .args .modes .now in
-    let n = s .args .numbers .now in
-    let b = s .args .bytes .now in
-    let e = s .args .event .now in
-    let k = s .args .clock in
-    let st = shown t (clockOf k) ms n b in
-    Laws.acts (Laws.at-unknown t st e (sym (c .before .before .before .decode .ensures) ∙ ap askedOf (c .before .enum-told2 .given .1))) (refused-does (c .refusal .ensures))
+    Laws.acts (Laws.at-unknown (s .args .t .now) _ (s .args .event .now) (sym (c .before .before .before .decode .ensures) ∙ ap askedOf (c .before .enum-told2 .given .1))) (refused-does (c .refusal .ensures))
 
 pub turn-spec : {M : Type 1} → statement M
 turn-spec =
