@@ -2,6 +2,7 @@
 -- Assumes nothing.
 use Prim.Native.Nat.{ℕ}
 use mathlib.Core.Path.{_≡_}
+use mathlib.Core.Logic.{_⊎_, inl, inr}
 use borrow.Author.Tests.{eq-eqb, ne-eqb}
 use Rattle.model.specs.Tables.{Tables}
 use Rattle.model.specs.State.{State, modeOf}
@@ -14,30 +15,21 @@ module _ (t : Tables) (time : ℕ) (s : State) (p : ℕ) (e : Event) (f : Call) 
   by-idle a = rw (eq-eqb (modeOf s p) 0 a)
 
   module _ (n : modeOf s p ≡ 0 → ⊥) where
-    pub by-1 : f .code ≡ 1 → service t time s p e f ≡ create t s p e f
+    pub by-create : (f .code ≡ 1) ⊎ (f .code ≡ 6) → service t time s p e f ≡ create t s p e f
     unfolding service
-    by-1 a = rw (ne-eqb (modeOf s p) 0 n, eq-eqb (f .code) 1 a)
+    by-create (inl a) = rw (ne-eqb (modeOf s p) 0 n, a)
+    by-create (inr a) = rw (ne-eqb (modeOf s p) 0 n, a)
 
-    module _ (n1 : f .code ≡ 1 → ⊥) where
-      pub by-6 : f .code ≡ 6 → service t time s p e f ≡ create t s p e f
-      unfolding service
-      by-6 a = rw (ne-eqb (modeOf s p) 0 n, ne-eqb (f .code) 1 n1, eq-eqb (f .code) 6 a)
+    pub by-get-id : (f .code ≡ 4) ⊎ (f .code ≡ 9) → service t time s p e f ≡ getId t s p e f
+    unfolding service
+    by-get-id (inl a) = rw (ne-eqb (modeOf s p) 0 n, a)
+    by-get-id (inr a) = rw (ne-eqb (modeOf s p) 0 n, a)
 
-      module _ (n6 : f .code ≡ 6 → ⊥) where
-        pub by-4 : f .code ≡ 4 → service t time s p e f ≡ getId t s p e f
-        unfolding service
-        by-4 a = rw (ne-eqb (modeOf s p) 0 n, ne-eqb (f .code) 1 n1, ne-eqb (f .code) 6 n6, eq-eqb (f .code) 4 a)
+    pub by-set-mode : f .code ≡ 12 → service t time s p e f ≡ setMode t s p (f .choice)
+    unfolding service
+    by-set-mode a = rw (ne-eqb (modeOf s p) 0 n, a)
 
-        module _ (n4 : f .code ≡ 4 → ⊥) where
-          pub by-9 : f .code ≡ 9 → service t time s p e f ≡ getId t s p e f
-          unfolding service
-          by-9 a = rw (ne-eqb (modeOf s p) 0 n, ne-eqb (f .code) 1 n1, ne-eqb (f .code) 6 n6, ne-eqb (f .code) 4 n4, eq-eqb (f .code) 9 a)
-
-          module _ (n9 : f .code ≡ 9 → ⊥) where
-            pub by-12 : f .code ≡ 12 → service t time s p e f ≡ setMode t s p (f .choice)
-            unfolding service
-            by-12 a = rw (ne-eqb (modeOf s p) 0 n, ne-eqb (f .code) 1 n1, ne-eqb (f .code) 6 n6, ne-eqb (f .code) 4 n4, ne-eqb (f .code) 9 n9, eq-eqb (f .code) 12 a)
-
-            pub by-own : (f .code ≡ 12 → ⊥) → service t time s p e f ≡ useOwn t time s p e f
-            unfolding service
-            by-own a = rw (ne-eqb (modeOf s p) 0 n, ne-eqb (f .code) 1 n1, ne-eqb (f .code) 6 n6, ne-eqb (f .code) 4 n4, ne-eqb (f .code) 9 n9, ne-eqb (f .code) 12 a)
+    pub by-own : ((f .code ≡ 1) ⊎ (f .code ≡ 6) → ⊥) → ((f .code ≡ 4) ⊎ (f .code ≡ 9) → ⊥) → (f .code ≡ 12 → ⊥) → service t time s p e f ≡ useOwn t time s p e f
+    unfolding service
+    by-own a b m =
+        rw (ne-eqb (modeOf s p) 0 n, ne-eqb (f .code) 1 (λ x. a (inl x)), ne-eqb (f .code) 6 (λ x. a (inr x)), ne-eqb (f .code) 4 (λ x. b (inl x)), ne-eqb (f .code) 9 (λ x. b (inr x)), ne-eqb (f .code) 12 m)

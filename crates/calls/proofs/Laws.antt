@@ -1,38 +1,35 @@
 -- From what a service at one port gives to what a call gives; and the parts of a call over accepted tables.
 -- Assumes nothing.
 use Prim.Native.Nat.{ℕ, suc, _+_, _-_, _*_, _≤_, _<_}
-use mathlib.Core.Path.{_≡_, refl, sym, _∙_, ap, ap₂, subst}
-use mathlib.Core.Bool.{Bool, true, false, _&&_}
+use mathlib.Core.Path.{_≡_, refl, sym, _∙_, ap, ap₂}
+use mathlib.Core.Bool.{Bool, true, false, _&&_, not}
 use mathlib.Core.List.{List}
 use native.Mathlib.Omega.{arith}
 use lib.Dec.{eqb}
 use lib.ListN.{getD, set}
-use borrow.Author.Tests.{le-leb, lt-leb, eq-eqb, ne-eqb, lt-ltb, le-ltb}
+use borrow.Author.Tests.{le-leb, lt-leb, eq-eqb, ne-eqb, lt-ltb, le-ltb, not-true, not-false}
 use Rattle.model.specs.Words.{byte, between}
 use Rattle.model.specs.Tables.{Tables, windows, Row, rowAt, row}
 use Rattle.model.specs.Tables.{ports as portCount}
-use Rattle.model.specs.State.{Clock, Port, State, modeOf, port, withPort, withQueue, fresh, isCreated}
-use Rattle.model.specs.Events.{Event, Call, need}
-use Rattle.model.specs.Services.{Reply, refuse, done, Served, refuses, serves, atPort, own, useOwn, serve, likeRow, made, lookUp, create, getId, setMode, withMode, unmade}
+use Rattle.model.specs.State.{Clock, State, modeOf, port, withQueue, fresh, isCreated}
+use Rattle.model.specs.Events.{Event, Call, Need, need}
+use Rattle.model.specs.Services.{refuse, done, Served, refuses, serves, atPort, own, useOwn, serve, likeRow, made, lookUp, create, getId, setMode, withMode, unmade}
 use Rattle.model.specs.Answers.{nothingTold, toldId}
 use Rattle.model.proofs.Tests.{both-left, between-low, between-high}
-use Rattle.model.proofs.Accepted.{Accepted, accepted}
-use Rattle.model.proofs.Rows.{RowRanges}
-use Rattle.model.proofs.Ranges.{PortRanged}
-use Rattle.tables.specs.Shown.{decoded}
+use Rattle.model.proofs.Accepted.{accepted}
 use Rattle.tables.specs.Shown as Shown
 use Rattle.tables.specs.declared.PortRow.{PortRow}
 use Rattle.tables.specs.declared.Transfer.the-variants.{Sampling, Queuing}
-use Rattle.tables.proofs.Decoded as Decoded
 use Rattle.events.specs.declared.answers.Answer.{Answer}
-use Rattle.events.specs.Shown.{refusedAs, toldAs}
+use Rattle.events.specs.Shown.{refusedAs}
 use Rattle.ports.specs.Held.{rowOf, blockOf, storeIn, portAt, RowPut, PortPut}
-use Rattle.ports.proofs.Ports.{ports-at, ports-put, port-put, put-is, block-kept}
+use Rattle.ports.proofs.Ports.{port-put, put-is, block-kept}
 use Rattle.ports.proofs.Rows.{row-again, row-is}
 use Rattle.stores.proofs.Laws.{queue-empty}
 use Rattle.services.specs.declared.Layout.{Layout}
 use Rattle.services.specs.Did.{Held, shown, Does}
-use Rattle.services.specs.Served.{Fits, Serves}
+use Rattle.services.specs.Served.{Serves}
+use Rattle.services.proofs.Holding.{created-is, shown-port, shown-put}
 use Rattle.calls.specs.Called.{Rows, ownAt, periodOf}
 
 -- accepted tables: where the rows lie, and that there are few
@@ -42,22 +39,8 @@ rows-of {t} h =
     record { laid = h .laid; inside = omega (arith, a .portsAfter, a .channelsAfter); few = a .fewPorts }
 
 -- a refusal leaves the state
-pub refused-does : (s : State) (doer code : ℕ) (r : Answer) {reply : Reply} → reply ≡ refuse code → r ≡ refusedAs code doer → Does s reply doer r s
-refused-does s doer code r {reply} e a =
-    subst (λ x. Does s x doer r s) (sym e) (record { answered = a; left = refl })
-
--- what is done is told, and leaves its state
-pub done-does : {s s' after : State} {doer : ℕ} {r : Answer} {reply : Reply} (v : _) → reply ≡ done v s' → r ≡ toldAs doer v → after ≡ s' → Does s reply doer r after
-done-does {s} {s'} {after} {doer} {r} v e a l = subst (λ x. Does s x doer r after) (sym e) (record { answered = a; left = l })
-
--- the port of the shown state is the arrays' port
-pub shown-port : (t : Tables) (clock : Clock) (modes numbers bytes : List ℕ) (k : ℕ) → k < portCount t → port (shown t clock modes numbers bytes) k ≡ portAt numbers bytes k
-shown-port t clock modes numbers bytes k h = ports-at numbers bytes (portCount t) k h
-
--- a port put is that port of the shown state replaced
-pub shown-put : (t : Tables) (clock : Clock) (modes : List ℕ) {numbers bytes numbers' bytes' : List ℕ} {k : ℕ} {q : Port} → k < portCount t → PortPut numbers bytes numbers' bytes' k q
-    → shown t clock modes numbers' bytes' ≡ withPort (shown t clock modes numbers bytes) k q
-shown-put t clock modes h p = ap (λ ps. record { clock = clock; modes = modes; ports = ps }) (ports-put (portCount t) h p)
+pub refused-does : {s : State} {doer code : ℕ} {r : Answer} → r ≡ refusedAs code doer → Does s (refuse code) doer r s
+refused-does a = record { answered = a; left = refl }
 
 -- a service at one port is a reply at that port
 pub serves-does :
@@ -67,24 +50,6 @@ pub serves-does :
 serves-does t clock modes numbers bytes numbers' bytes' k doer r (refuses code) h s =
     record { answered = s .answered; left = ap₂ (shown t clock modes) (s .numbersKept) (s .bytesKept) }
 serves-does t clock modes numbers bytes numbers' bytes' k doer r (serves v q) h s = record { answered = s .0; left = shown-put t clock modes h (s .1) }
-
--- the row of port k, decoded, shows the model's row; and port k fits it
-pub row-shown : (t : Tables) → Accepted t → (k : ℕ) → k < portCount t → Shown.rowOf (decoded (row t k)) ≡ row t k
-row-shown t a k h = Decoded.shown (row t k) (a .rows k h)
-
-pub fits-of : {t : Tables} {lay : Layout} {numbers bytes : List ℕ} → Held t lay numbers bytes → (k : ℕ) → k < portCount t → (r : PortRow) → r ≡ decoded (row t k) → Fits numbers bytes k r
-fits-of {t} {lay} {numbers} {bytes} h k l r e =
-    let a = accepted t (h .accepted) in
-    let shows : Shown.rowOf r ≡ row t k = ap Shown.rowOf e ∙ row-shown t a k l in
-    record {
-      lent = record { rows = h .rows; blocks = h .blocks; there = omega (arith, a .fewPorts) };
-      ranges = subst RowRanges (sym shows) (a .rows k l);
-      port = subst (λ x. PortRanged x (portAt numbers bytes k)) (sym shows) (h .each k l);
-    }
-
-pub created-is : (numbers bytes : List ℕ) (k : ℕ) → portAt numbers bytes k .created ≡ getD (rowOf numbers k) 0 0
-unfolding portAt
-created-is numbers bytes k = refl
 
 -- the test of an own port in the shown state reads the created mark where it stands
 pub own-shown : (t : Tables) (clock : Clock) (modes numbers bytes : List ℕ) (p : ℕ) (f : Call) → own t (shown t clock modes numbers bytes) p f ≡ ownAt t numbers p f
@@ -183,46 +148,68 @@ module _ (r : Row) (f : Call) where
   unfolding likeRow
   like-number a b = rw (eq-eqb (f .size) (r .largest) a, eq-eqb (f .choice) (r .direction) b)
 
--- create, at the port that was found
-module _ (id mode : ℕ) (r : Row) (f : Call) (q : Port) where
-  pub made-again : q .created ≡ 1 → made id mode r f q ≡ refuses 1
+-- create, at the port that was found: its mark and the likeness as the code reads them
+module _ (numbers bytes : List ℕ) (k mode : ℕ) (r : Row) (f : Call) {x : ℕ} (marked : x ≡ getD (rowOf numbers k) 0 0) where
+  pub made-again : x ≡ 1 → made (k + 1) mode r f (portAt numbers bytes k) ≡ refuses 1
   unfolding made
-  made-again a = rw (eq-eqb (q .created) 1 a)
+  made-again a = rw (eq-eqb (portAt numbers bytes k .created) 1 (created-is numbers bytes k ∙ sym marked ∙ a))
 
-  pub made-unlike : (q .created ≡ 1 → ⊥) → likeRow r f ≡ false → made id mode r f q ≡ refuses 4
-  unfolding made
-  made-unlike a b = rw (ne-eqb (q .created) 1 a, b)
+  module _ (new : x ≡ 1 → ⊥) {like : Bool} (alike : like ≡ likeRow r f) where
+    uncreated : eqb (portAt numbers bytes k .created) 1 ≡ false
+    uncreated = ne-eqb (portAt numbers bytes k .created) 1 (λ e. new (marked ∙ sym (created-is numbers bytes k) ∙ e))
 
-  pub made-normal : (q .created ≡ 1 → ⊥) → likeRow r f ≡ true → mode ≡ 3 → made id mode r f q ≡ refuses 5
-  unfolding made
-  made-normal a b m = rw (ne-eqb (q .created) 1 a, b, eq-eqb mode 3 m)
+    pub made-unlike : not like ≡ true → made (k + 1) mode r f (portAt numbers bytes k) ≡ refuses 4
+    unfolding made
+    made-unlike b = rw (uncreated, sym alike ∙ not-true like b)
 
-  pub made-done : (q .created ≡ 1 → ⊥) → likeRow r f ≡ true → (mode ≡ 3 → ⊥)
-      → made id mode r f q ≡ serves (toldId id) (record { created = 1; arrival = q .arrival; validity = q .validity; queue = q .queue })
-  unfolding made
-  made-done a b m = rw (ne-eqb (q .created) 1 a, b, ne-eqb mode 3 m)
+    pub made-normal : not like ≡ false → mode ≡ 3 → made (k + 1) mode r f (portAt numbers bytes k) ≡ refuses 5
+    unfolding made
+    made-normal b m = rw (uncreated, sym alike ∙ not-false like b, eq-eqb mode 3 m)
 
--- create and get id, by what the look-up finds
-module _ (t : Tables) (s : State) (p : ℕ) (e : Event) (f : Call) (k : ℕ) (found : k ≡ lookUp t p (need (f .code) .mode) e) where
-  pub create-none : portCount t ≤ k → create t s p e f ≡ refuse 4
-  unfolding create
-  create-none h = rw (← found, le-ltb k (portCount t) h)
+    pub made-done : not like ≡ false → (mode ≡ 3 → ⊥)
+        → made (k + 1) mode r f (portAt numbers bytes k)
+        ≡ serves (toldId (k + 1)) (record { created = 1; arrival = portAt numbers bytes k .arrival; validity = portAt numbers bytes k .validity; queue = portAt numbers bytes k .queue })
+    unfolding made
+    made-done b m = rw (uncreated, sym alike ∙ not-false like b, ne-eqb mode 3 m)
 
-  pub create-found : k < portCount t → create t s p e f ≡ atPort s k (made (suc k) (modeOf s p) (row t k) f (port s k))
-  unfolding create
-  create-found h = rw (← found, lt-ltb k (portCount t) h)
+-- create and get id in the shown state, by what the look-up finds and by the mark that the code reads
+module _
+    {t : Tables} {lay : Layout} {numbers bytes : List ℕ} (h : Held t lay numbers bytes) (clock : Clock) (modes : List ℕ) (p : ℕ) (e : Event) (f : Call)
+    {n : Need} {k : ℕ} (needed : n ≡ need (f .code)) (found : k ≡ lookUp t p (n .mode) e)
+  where
+    abbrev s : State
+    s = shown t clock modes numbers bytes
 
-  pub id-none : portCount t ≤ k → getId t s p e f ≡ refuse 4
-  unfolding getId
-  id-none h = rw (← found, le-ltb k (portCount t) h)
+    place : k ≡ lookUp t p (need (f .code) .mode) e
+    place = found ∙ ap (λ x. lookUp t p (x .mode) e) needed
 
-  pub id-unmade : k < portCount t → (port s k .created ≡ 1 → ⊥) → getId t s p e f ≡ refuse 4
-  unfolding getId
-  id-unmade h n = rw (← found, lt-ltb k (portCount t) h, ne-eqb (port s k .created) 1 n)
+    pub create-none : lay .ports ≤ k → create t s p e f ≡ refuse 4
+    unfolding create
+    create-none past = rw (← place, le-ltb k (portCount t) (omega (arith, h .laid .ported)))
 
-  pub id-made : k < portCount t → port s k .created ≡ 1 → getId t s p e f ≡ done (toldId (suc k)) s
-  unfolding getId
-  id-made h n = rw (← found, lt-ltb k (portCount t) h, eq-eqb (port s k .created) 1 n)
+    pub id-none : lay .ports ≤ k → getId t s p e f ≡ refuse 4
+    unfolding getId
+    id-none past = rw (← place, le-ltb k (portCount t) (omega (arith, h .laid .ported)))
+
+    module _ (inside : k < lay .ports) where
+      there : k < portCount t
+      there = omega (arith, h .laid .ported)
+
+      pub create-found : create t s p e f ≡ atPort s k (made (suc k) (modeOf s p) (row t k) f (port s k))
+      unfolding create
+      create-found = rw (← place, lt-ltb k (portCount t) there)
+
+      module _ {x : ℕ} (marked : x ≡ getD (rowOf numbers k) 0 0) where
+        mark : port s k .created ≡ x
+        mark = ap (λ q. q .created) (shown-port t clock modes numbers bytes k there) ∙ created-is numbers bytes k ∙ sym marked
+
+        pub id-unmade : (x ≡ 1 → ⊥) → getId t s p e f ≡ refuse 4
+        unfolding getId
+        id-unmade new = rw (← place, lt-ltb k (portCount t) there, ne-eqb (port s k .created) 1 (λ z. new (sym mark ∙ z)))
+
+        pub id-made : x ≡ 1 → getId t s p e f ≡ done (toldId (suc k)) s
+        unfolding getId
+        id-made made = rw (← place, lt-ltb k (portCount t) there, eq-eqb (port s k .created) 1 (mark ∙ made))
 
 -- a port's row with its marks, arrival and count zero is a port that is not created
 pub unmade-row : {n₀ n₁ n₂ n₃ n₄ : List ℕ} {k : ℕ} → RowPut n₀ n₁ k (set (rowOf n₀ k) 0 0) → RowPut n₁ n₂ k (set (rowOf n₁ k) 1 0) → RowPut n₂ n₃ k (set (rowOf n₂ k) 2 0)

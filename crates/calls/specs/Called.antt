@@ -1,6 +1,6 @@
 -- A partition's call over modes and lent arrays, against the model's.
 -- Assumes nothing.
-use Prim.Native.Nat.{ℕ, _+_, _-_, _≤_, _<_}
+use Prim.Native.Nat.{ℕ, _+_, _-_, _≤_}
 use mathlib.Core.Path.{_≡_}
 use mathlib.Core.Bool.{Bool, true, _&&_}
 use mathlib.Core.List.{List}
@@ -14,7 +14,7 @@ use Rattle.model.specs.Services.{Reply}
 use Rattle.events.specs.declared.answers.Answer.{Answer}
 use Rattle.ports.specs.Held.{rowOf}
 use Rattle.services.specs.declared.Layout.{Layout}
-use Rattle.services.specs.Did.{Laid, Held, shown, Does}
+use Rattle.services.specs.Did.{Laid, shown, Does}
 
 -- the test of an own port, with the created mark where it stands
 unfoldable pub ownAt : Tables → List ℕ → ℕ → Call → Bool

@@ -1,11 +1,9 @@
 // A partition's call: in IDLE 15, else the service of its code.
-ghost use mathlib.Core.Path.{_≡_};
 ghost use Prim.Native.Nat.{_<_};
 ghost use lib.ListN.{length};
-ghost use Rattle.model.specs.State.{Clock};
 ghost use Rattle.model.specs.Services.{service};
 ghost use Rattle.events.specs.Shown.{callOf};
-ghost use Rattle.services.specs.Did.{Held, Does, shown};
+ghost use Rattle.services.specs.Did.{Held};
 ghost use Rattle.calls.specs.Called.{Asked, Calls};
 use super::creating::create;
 use super::creating::get_id;
@@ -35,20 +33,10 @@ pub fn service(
         return events::refusal(15, p);
     }
     let code = f.code;
-    if code == 1 {
-        return create(t, lay, modes, numbers, bytes, p, event, f);
+    match code {
+        1 | 6 => create(t, lay, modes, numbers, bytes, p, event, f),
+        4 | 9 => get_id(t, lay, numbers, bytes, p, event, f),
+        12 => set_mode(t, lay, modes, numbers, p, f.choice),
+        _ => use_own(t, lay, numbers, bytes, p, time, event, f),
     }
-    if code == 6 {
-        return create(t, lay, modes, numbers, bytes, p, event, f);
-    }
-    if code == 4 {
-        return get_id(t, lay, numbers, bytes, p, event, f);
-    }
-    if code == 9 {
-        return get_id(t, lay, numbers, bytes, p, event, f);
-    }
-    if code == 12 {
-        return set_mode(t, lay, modes, numbers, p, f.choice);
-    }
-    use_own(t, lay, numbers, bytes, p, time, event, f)
 }

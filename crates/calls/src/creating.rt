@@ -1,15 +1,13 @@
 // Create and get id, which find their port by name.
 ghost use mathlib.Core.Path.{_≡_};
-ghost use mathlib.Core.Bool.{true};
 ghost use mathlib.Core.List.{List};
 ghost use Prim.Native.Nat.{ℕ, _+_, _<_};
-ghost use lib.ListN.{length, getD};
+ghost use lib.ListN.{length};
 ghost use Rattle.model.specs.Services.{likeRow, made, create, getId};
-ghost use Rattle.model.specs.State.{Clock};
 ghost use Rattle.tables.specs.Shown.{rowOf};
 ghost use Rattle.events.specs.Shown.{callOf};
 ghost use Rattle.ports.specs.Held.{portAt};
-ghost use Rattle.services.specs.Did.{Held, Does, shown};
+ghost use Rattle.services.specs.Did.{Held};
 ghost use Rattle.services.specs.Served.{Lent, Serves};
 ghost use Rattle.calls.specs.Called.{Asked, Calls, periodOf};
 use super::names::look_up;

@@ -4,7 +4,6 @@ ghost use Prim.Native.Nat.{_<_};
 ghost use lib.ListN.{length};
 ghost use Rattle.model.specs.Tables.{ports};
 ghost use Rattle.model.specs.Services.{isNamed, lookUp};
-ghost use Rattle.services.specs.Did.{Laid};
 ghost use Rattle.calls.specs.Called.{Rows};
 use services::Layout;
 

@@ -1,7 +1,7 @@
 -- The model's value for each case of the code's enums and structs: needs, what an event asks for, and answers.
 -- Assumes nothing.
 use Prim.Native.Nat.{ℕ}
-use mathlib.Core.List.{List, [], _∷_, _++_}
+use mathlib.Core.List.{List, _∷_, _++_}
 use Rattle.model.specs.Words.{bytes16, bytes32, zeros, filled}
 use Rattle.model.specs.Events as model
 use Rattle.model.specs.Answers.{Told}

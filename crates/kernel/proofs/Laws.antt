@@ -1,7 +1,7 @@
 -- What the public calls' proofs lean on: the refusals of a list, a state that passes test 29, and the reader's tests.
 -- Assumes nothing.
 use Prim.Native.Nat.{ℕ, _+_, _*_, _/_, _%_, _≤_, _<_}
-use mathlib.Core.Path.{_≡_, refl, sym, _∙_, subst}
+use mathlib.Core.Path.{_≡_, refl, sym, _∙_}
 use mathlib.Core.Bool.{Bool, true, false, _&&_}
 use mathlib.Core.List.{List}
 use native.Mathlib.Omega.{arith}
@@ -9,24 +9,16 @@ use lib.Dec.{eqb, ltb, leb}
 use lib.ListN.{length}
 use borrow.Author.Tests.{eq-eqb, ne-eqb, lt-ltb, le-ltb, ltb-true, leb-true}
 use Rattle.model.specs.Words.{byte, word32}
-use Rattle.model.specs.Tables.{Tables, row}
-use Rattle.model.specs.Tables.{ports as portCount}
-use Rattle.model.specs.Load.{accepts, accepted}
+use Rattle.model.specs.Tables.{Tables}
+use Rattle.model.specs.Load.{accepts}
 use Rattle.model.specs.State.{inRange}
 use Rattle.model.specs.Answers.{isHanded, stretch}
 use Rattle.model.specs.Run.{eventsOf, listFault}
 use Rattle.model.proofs.Tests.{both-left, both-right}
-use Rattle.model.proofs.Accepted as Accepted
-use Rattle.model.proofs.Ranges.{PortRanged, ranged}
-use Rattle.tables.specs.Shown.{decoded}
-use Rattle.events.specs.declared.clock.Clock.{Clock}
-use Rattle.stores.specs.Ring.{Sized}
-use Rattle.ports.specs.Held.{storeAt}
-use Rattle.ports.proofs.Ports.{ports-at}
+use Rattle.model.proofs.Ranges.{ranged}
 use Rattle.services.specs.declared.Layout.{Layout}
 use Rattle.services.specs.Did.{Laid}
-use Rattle.services.proofs.Laws.{sized-of}
-use Rattle.calls.proofs.Laws.{fits-of}
+use Rattle.services.proofs.Holding.{held-of}
 use Rattle.states.specs.declared.State.{State}
 use Rattle.states.specs.Shown.{shownState, stateFits, indexed}
 use Rattle.steps.specs.Stepped.{Ready}
@@ -91,21 +83,7 @@ pub ready-of :
     → Ready t lay (record { window = st .window; time = st .time }) (st .modes) (st .numbers) (st .bytes)
 ready-of t lay st a l f n b =
     let r = ranged t (shownState t st) (both-left (inRange t (shownState t st)) (indexed t (st .numbers)) f) in
-    record {
-      held =
-          record {
-            accepted = a;
-            laid = l;
-            rows = n;
-            blocks = b;
-            each = λ k h. subst (PortRanged (row t k)) (ports-at (st .numbers) (st .bytes) (portCount t) k h) (r .each k h);
-          };
-      ranged = r;
-    }
-
--- and each of its stores can be settled
-pub sized-ready : {t : Tables} {lay : Layout} {clock : Clock} {modes numbers bytes : List ℕ} → Ready t lay clock modes numbers bytes → (k : ℕ) → k < portCount t → Sized (storeAt numbers bytes k)
-sized-ready {t} {lay} {clock} {modes} {numbers} {bytes} h k l = sized-of numbers bytes k (decoded (row t k)) (fits-of (h .held) k l (decoded (row t k)) refl)
+    record { held = held-of a l n b r; ranged = r }
 
 -- the reader's tests, in their order
 module _ (b : List ℕ) (n : ℕ) where

@@ -1,14 +1,13 @@
 -- The contracts of the public calls. Each is one predicate over the bytes offered, the state handed in, the result and the lent bytes afterwards;
 -- each is a row of equations, so that any two outcomes that meet it are equal (proofs/Unique.antt).
 -- Assumes nothing.
-use Prim.Native.Nat.{ℕ, _+_, _/_, _%_}
+use Prim.Native.Nat.{ℕ, _%_}
 use mathlib.Core.Path.{_≡_}
-use mathlib.Core.Bool.{Bool, true, false, _&&_, _||_, not}
+use mathlib.Core.Bool.{Bool, _&&_, not}
 use mathlib.Core.List.{List, _++_}
 use lib.Dec.{eqb}
-use lib.ListN.{length, take, drop}
+use lib.ListN.{length, drop}
 use Rattle.model.specs.Words.{if_then_else_}
-use Rattle.model.specs.Tables.{Tables}
 use Rattle.model.specs.Load.{loadOf, accepts}
 use Rattle.model.specs.State as model
 use Rattle.model.specs.Events.{eventSize}

@@ -11,7 +11,7 @@ use Rattle.model.specs.Words.{if_then_else_, between, first}
 use Rattle.model.specs.Tables.{Tables, records, kind, windows, portsEnd, ports, channels}
 use Rattle.model.specs.Load.{lengthFault, kindFault, countFault, fieldFault, nameFault, endFault, fault, firstFault, refused, accepted, isAccepted, loadOf, accepts}
 use Rattle.model.proofs.Tests.{neither-left, neither-right, between-low, between-high}
-use Rattle.model.proofs.Bounded.{first-from, first-to, first-none, first-is}
+use Rattle.model.proofs.Searches.{first-least, first-most, first-passed, first-is}
 
 -- no fault of any kind at a record
 pub record Faultless (t : Tables) (r : ℕ) : Type 0 where
@@ -57,7 +57,7 @@ module _ (t : Tables) (ok : accepts t ≡ true) where
   unfolding firstFault
   no-fault r h =
       let past : records t ≤ firstFault t = ltb-false _ _ (passed t ok .noFault) in
-      let none = first-none (λ r. not (eqb (fault t r) 0)) (records t) 0 r (omega arith) (omega arith) in
+      let none = first-passed (λ r. not (eqb (fault t r) 0)) (records t) 0 r (omega arith) (omega arith) in
       faultless t r (eqb-true _ _ (not-false _ none))
 
   pub some-window : 0 < windows t
@@ -96,17 +96,17 @@ module _ (t : Tables) (ok : accepts t ≡ true) where
   -- windows, then ports, then channels
   pub windows-end : windows t ≤ records t
   unfolding windows
-  windows-end = let h = first-to (λ r. not (eqb (kind t r) 1)) (records t) 0 in omega arith
+  windows-end = let h = first-most (λ r. not (eqb (kind t r) 1)) (records t) 0 in omega arith
 
   pub ports-start : windows t ≤ portsEnd t
   unfolding portsEnd
-  ports-start = first-from (λ r. not (eqb (kind t r) 2)) (records t - windows t) (windows t)
+  ports-start = first-least (λ r. not (eqb (kind t r) 2)) (records t - windows t) (windows t)
 
   pub ports-end : portsEnd t ≤ records t
   unfolding portsEnd
   ports-end =
       let inside = windows-end in
-      let h = first-to (λ r. not (eqb (kind t r) 2)) (records t - windows t) (windows t) in
+      let h = first-most (λ r. not (eqb (kind t r) 2)) (records t - windows t) (windows t) in
       omega arith
 
   pub ports-after : windows t + ports t ≡ portsEnd t
@@ -119,12 +119,12 @@ module _ (t : Tables) (ok : accepts t ≡ true) where
 
   pub window-kind : (w : ℕ) → w < windows t → kind t w ≡ 1
   unfolding windows
-  window-kind w h = eqb-true _ _ (not-false _ (first-none (λ r. not (eqb (kind t r) 1)) (records t) 0 w (omega arith) h))
+  window-kind w h = eqb-true _ _ (not-false _ (first-passed (λ r. not (eqb (kind t r) 1)) (records t) 0 w (omega arith) h))
 
   pub port-kind : (r : ℕ) → windows t ≤ r → r < portsEnd t → kind t r ≡ 2
   unfolding portsEnd
   port-kind r l h =
-      eqb-true _ _ (not-false _ (first-none (λ r. not (eqb (kind t r) 2)) (records t - windows t) (windows t) r l h))
+      eqb-true _ _ (not-false _ (first-passed (λ r. not (eqb (kind t r) 2)) (records t - windows t) (windows t) r l h))
 
   past-windows : windows t < records t → 2 ≤ kind t (windows t)
   unfolding windows

@@ -6,7 +6,7 @@ use mathlib.Core.Path.{_≡_}
 use mathlib.Core.Bool.{Bool, true, _&&_, _||_}
 use lib.Dec.{eqb, ltb, leb}
 use borrow.Author.Tests.{ltb-true, leb-true, eqb-true}
-use Rattle.model.proofs.Bounded.{first-is}
+use Rattle.model.proofs.Searches.{first-is}
 use Rattle.model.proofs.Tests.{both-left, both-right, by-test}
 use Rattle.model.specs.Words.{between}
 use Rattle.model.specs.Tables.{Tables, ports, row}

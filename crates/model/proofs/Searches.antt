@@ -1,11 +1,11 @@
 -- The laws of the bounded searches `any`, `all` and `first`, over any test. A search that stands at i and goes up to e has e - i numbers left: it goes one on, it stops, or it is at its end.
 -- Assumes nothing.
 use Prim.Native.Nat.{ℕ, zero, suc, _+_, _-_, _≤_, _<_}
-use mathlib.Core.Path.{_≡_, refl}
+use mathlib.Core.Path.{_≡_, refl, subst}
 use mathlib.Core.Bool.{Bool, true, false}
+use mathlib.Core.Logic.{⊎-elim}
+use native.Mathlib.Nat.{eq-or-lt-of-le}
 use native.Mathlib.Numerals.{add-one}
-use lib.Dec.{ltb}
-use borrow.Author.Tests.{ltb-true, ltb-false}
 use native.Mathlib.Omega.{arith}
 use Rattle.model.specs.Words.{if_then_else_, any, all, first}
 
@@ -44,33 +44,36 @@ module _ (p : ℕ → Bool) (e i : ℕ) where
   pub first-end : e ≤ i → first p (e - i) i ≡ i
   first-end h = rw (rest-none e i h)
 
--- where a first search ends up: not below where it began, not past its end, and each number that it passed over fails the test
-pub first-least : (p : ℕ → Bool) (n k : ℕ) → k ≤ first p n k
-first-least p zero k = omega arith
-first-least p (suc n) k = at (p k) (first-least p n (suc k))
-  where
-    at : (b : Bool) → suc k ≤ first p n (suc k) → k ≤ (if b then k else first p n (suc k))
-    at true h = omega arith
-    at false h = omega arith
+-- where a first search ends up: not below where it began, not past its end, past each number that fails the test, and at one that passes it unless it is at its end
+module _ (p : ℕ → Bool) where
+  pub first-least : (n k : ℕ) → k ≤ first p n k
+  first-least zero k = omega arith
+  first-least (suc n) k = go (p k) (first-least n (suc k))
+    where
+      go : (b : Bool) → suc k ≤ first p n (suc k) → k ≤ (if b then k else first p n (suc k))
+      go true h = omega arith
+      go false h = omega arith
 
-pub first-most : (p : ℕ → Bool) (n k : ℕ) → first p n k ≤ k + n
-first-most p zero k = omega arith
-first-most p (suc n) k = at (p k) (first-most p n (suc k))
-  where
-    at : (b : Bool) → first p n (suc k) ≤ suc k + n → (if b then k else first p n (suc k)) ≤ k + suc n
-    at true h = omega arith
-    at false h = omega arith
+  pub first-most : (n k : ℕ) → first p n k ≤ k + n
+  first-most zero k = omega arith
+  first-most (suc n) k = go (p k) (first-most n (suc k))
+    where
+      go : (b : Bool) → first p n (suc k) ≤ suc k + n → (if b then k else first p n (suc k)) ≤ k + suc n
+      go true h = omega arith
+      go false h = omega arith
 
-pub first-passed : (p : ℕ → Bool) (n k q : ℕ) → k ≤ q → q < first p n k → p q ≡ false
-first-passed p zero k q low high = absurd (omega arith)
-first-passed p (suc n) k q low high = here (p k) refl high (first-passed p n (suc k) q)
-  where
-    at : (b : Bool) → ltb k q ≡ b → p k ≡ false → (suc k ≤ q → p q ≡ false) → p q ≡ false
-    at true e f on = on (ltb-true k q e)
-    at false e f on =
-        let same : k ≡ q = omega (arith, ltb-false k q e) in
-        rw same at f
+  pub first-passed : (n k j : ℕ) → k ≤ j → j < first p n k → p j ≡ false
+  first-passed zero k j l h = absurd (omega arith)
+  first-passed (suc n) k j l h = go (p k) refl h (first-passed n (suc k) j)
+    where
+      go : (b : Bool) → p k ≡ b → j < (if b then k else first p n (suc k)) → (suc k ≤ j → j < first p n (suc k) → p j ≡ false) → p j ≡ false
+      go true e h later = absurd (omega arith)
+      go false e h later = ⊎-elim (λ q. subst (λ i. p i ≡ false) q e) (λ q. later q h) (eq-or-lt-of-le l)
 
-    here : (b : Bool) → p k ≡ b → q < (if b then k else first p n (suc k)) → (suc k ≤ q → q < first p n (suc k) → p q ≡ false) → p q ≡ false
-    here true e h on = absurd (omega arith)
-    here false e h on = at (ltb k q) refl e (λ l. on l h)
+  pub first-is : (n k : ℕ) → first p n k < k + n → p (first p n k) ≡ true
+  first-is zero k h = absurd (omega arith)
+  first-is (suc n) k h = go (p k) refl h (first-is n (suc k))
+    where
+      go : (b : Bool) → p k ≡ b → (if b then k else first p n (suc k)) < k + suc n → (first p n (suc k) < suc k + n → p (first p n (suc k)) ≡ true) → p (if b then k else first p n (suc k)) ≡ true
+      go true e h later = e
+      go false e h later = later (omega arith)

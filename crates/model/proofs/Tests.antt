@@ -28,9 +28,6 @@ pub neither-right : (a b : Bool) → (a || b) ≡ false → b ≡ false
 neither-right true b e = absurd (true≢false e)
 neither-right false b e = e
 
-pub neither : {a b : Bool} → a ≡ false → b ≡ false → (a || b) ≡ false
-neither {a} {b} p q = cc
-
 pub between-low : (low high x : ℕ) → between low high x ≡ true → low ≤ x
 between-low low high x e = leb-true low x (both-left (leb low x) (leb x high) e)
 

@@ -1,7 +1,7 @@
 -- What the proofs of the mover lean on, of a channel: where its record and its ends stand, its destinations in their turn, its source, and the whole move.
 -- Assumes nothing.
 use Prim.Native.Nat.{ℕ, suc, _+_, _-_, _≤_, _<_}
-use mathlib.Core.Path.{_≡_, refl, sym, _∙_, ap, subst}
+use mathlib.Core.Path.{_≡_, refl, sym, _∙_, ap, ap₂, subst}
 use mathlib.Core.Bool.{true}
 use mathlib.Core.List.{List, [], _∷_}
 use native.Mathlib.Numerals.{add-one}
@@ -10,33 +10,31 @@ use lib.ListN.{length, getD}
 use Rattle.model.specs.Words.{allIn}
 use Rattle.model.specs.Tables.{Tables, records, portsEnd, Row, row, rowAt, sourcePort, destinations, destinationPort}
 use Rattle.model.specs.Tables.{ports as portCount, channels as channelCount}
-use Rattle.model.specs.State.{Message, Clock, State, port, withPort, withQueue}
+use Rattle.model.specs.State.{Message, Clock, Port, State, port, withPort, withQueue}
 use Rattle.model.specs.Answers.{nothingTold}
 use Rattle.model.specs.Services.{Reply, arrived, delivered, transmitOldest, transmit}
 use Rattle.model.proofs.Tests.{both-left, between-low, between-high, is-between}
 use Rattle.model.proofs.Ranges.{fits, PortRanged}
 use Rattle.model.proofs.RangesKept.{arrived-ranged}
-use Rattle.model.proofs.Rows.{RowRanges}
 use Rattle.model.proofs.Ends.{DestinationEnd}
 use Rattle.model.proofs.Accepted.{Accepted, accepted}
 use Rattle.tables.specs.Shown.{rowOf, decoded}
 use Rattle.tables.specs.declared.PortRow.{PortRow}
-use Rattle.tables.proofs.Decoded.{shown as row-shown}
 use Rattle.events.specs.declared.answers.Answer.{Answer}
 use Rattle.events.specs.Shown.{refusedAs, toldAs}
 use Rattle.stores.specs.declared.Letter.{Letter}
-use Rattle.stores.specs.Ring.{Sized, written}
-use Rattle.stores.proofs.Laws.{queue-empty}
+use Rattle.stores.specs.Ring.{Sized, written, letterOf}
+use Rattle.stores.proofs.Laws.{written-letter}
 use Rattle.ports.specs.Held
-use Rattle.ports.specs.Held.{storeAt, portAt}
-use Rattle.ports.proofs.Ports.{store-queue, store-count}
+use Rattle.ports.specs.Held.{storeAt, portAt, PortPut}
 use Rattle.services.specs.declared.Layout.{Layout}
-use Rattle.services.specs.Served.{Lent, Fits}
+use Rattle.services.specs.Served.{Lent, Fits, TakesOldest}
 use Rattle.services.specs.Did
 use Rattle.services.specs.Did.{shown, Does}
-use Rattle.services.proofs.Laws.{sized-of}
-use Rattle.moves.specs.Moved.{Arrived, Carried, Left, Delivered, Moved}
-use Rattle.moves.proofs.Laws.{left-ranged, held-put, port-shown, put-shown}
+use Rattle.services.proofs.Laws.{none-held, some-held, oldest-held}
+use Rattle.services.proofs.Holding.{shown-port, shown-put, row-read, fits-of, sized-at}
+use Rattle.moves.specs.Moved.{Arrived, Carried, Delivered, Moved}
+use Rattle.moves.proofs.Laws.{left-ranged, held-put}
 
 -- channel c of tables whose ports the lent arrays hold
 module _ {t : Tables} {lay : Layout} {numbers bytes : List ℕ} (h : Did.Held t lay numbers bytes) (c : ℕ) (there : c < lay .channels) where
@@ -66,16 +64,6 @@ module _ {t : Tables} {lay : Layout} {numbers bytes : List ℕ} (h : Did.Held t 
   pub few-destinations : destinations t c ≤ 8
   few-destinations = laws .sources c here .fewEnds
 
-  -- a port of the tables with its row, as a service wants them
-  pub port-fits : (k : ℕ) → k < portCount t → Fits numbers bytes k (decoded (row t k))
-  port-fits k l =
-      let whole = row-shown (row t k) (laws .rows k l) in
-      record {
-        lent = record { rows = h .rows; blocks = h .blocks; there = omega (arith, laws .fewPorts) };
-        ranges = subst RowRanges (sym whole) (laws .rows k l);
-        port = subst (λ (r : Row). PortRanged r (portAt numbers bytes k)) (sym whole) (h .each k l);
-      }
-
   -- destination j, with its row as the reader decodes it
   module _ (j : ℕ) (few : j < destinations t c) where
     end : DestinationEnd t c j
@@ -84,20 +72,17 @@ module _ {t : Tables} {lay : Layout} {numbers bytes : List ℕ} (h : Did.Held t 
     pub its-row : {k : ℕ} → k ≡ destinationPort t c j → lay .windows + k < records t
     its-row e = omega (arith, e, h .laid .windowed, end .there, laws .portsAfter, laws .channelsAfter)
 
-    row-read : {k : ℕ} {r : PortRow} → k ≡ destinationPort t c j → r ≡ decoded (rowAt t (lay .windows + k)) → r ≡ decoded (row t (destinationPort t c j))
-    row-read {k} e read = read ∙ ap (λ i. decoded (rowAt t i)) (omega (arith, e, h .laid .windowed))
+    decoded-row : {k : ℕ} {r : PortRow} → k ≡ destinationPort t c j → r ≡ decoded (rowAt t (lay .windows + k)) → r ≡ decoded (row t (destinationPort t c j))
+    decoded-row {k} e read = read ∙ ap (λ i. decoded (rowAt t i)) (omega (arith, e, h .laid .windowed))
 
     pub destination-fits : {k : ℕ} {r : PortRow} → k ≡ destinationPort t c j → r ≡ decoded (rowAt t (lay .windows + k)) → Fits numbers bytes k r
-    destination-fits {k} {r} e read =
-        subst (λ (x : ℕ). Fits numbers bytes x r) (sym e)
-        (subst (λ (x : PortRow). Fits numbers bytes (destinationPort t c j) x) (sym (row-read e read)) (port-fits (destinationPort t c j) (end .there)))
+    destination-fits {k} {r} e read = subst (λ (x : ℕ). Fits numbers bytes x r) (sym e) (fits-of h (destinationPort t c j) (end .there) r (decoded-row e read))
 
     pub handed : {numbers' bytes' : List ℕ} {k : ℕ} {r : PortRow} (time : ℕ) (m : Message) → k ≡ destinationPort t c j → r ≡ decoded (rowAt t (lay .windows + k))
         → Arrived time (rowOf r) m k numbers bytes numbers' bytes'
         → Arrived time (row t (destinationPort t c j)) m (destinationPort t c j) numbers bytes numbers' bytes'
     handed {numbers'} {bytes'} {k} {r} time m e read p =
-        subst (λ (x : Row). Arrived time x m (destinationPort t c j) numbers bytes numbers' bytes')
-        (ap rowOf (row-read e read) ∙ row-shown (row t (destinationPort t c j)) (laws .rows (destinationPort t c j) (end .there)))
+        subst (λ (x : Row). Arrived time x m (destinationPort t c j) numbers bytes numbers' bytes') (row-read t laws (destinationPort t c j) (end .there) (decoded-row e read))
         (subst (λ (x : ℕ). Arrived time (rowOf r) m x numbers bytes numbers' bytes') e p)
 
     -- what it has got is in range
@@ -131,8 +116,8 @@ module _ {t : Tables} {lay : Layout} {numbers bytes : List ℕ} (h : Did.Held t 
 
         put : shown t clock modes numbers' bytes' ≡ withPort s d (arrived time (row t d) m (port s d))
         put =
-            put-shown t clock modes (end .there) p
-            ∙ ap (λ q. withPort s d (arrived time (row t d) m q)) (sym (port-shown t clock modes numbers bytes d (end .there)))
+            shown-put t clock modes (end .there) p
+            ∙ ap (λ q. withPort s d (arrived time (row t d) m q)) (sym (shown-port t clock modes numbers bytes d (end .there)))
 
   -- the source, whose number the reader has found
   module _ {k : ℕ} (found : k ≡ sourcePort t c) where
@@ -140,61 +125,81 @@ module _ {t : Tables} {lay : Layout} {numbers bytes : List ℕ} (h : Did.Held t 
     source-lent = record { rows = h .rows; blocks = h .blocks; there = omega (arith, found, source-there, laws .fewPorts) }
 
     pub source-sized : Sized (storeAt numbers bytes k)
-    source-sized =
-        subst (λ (x : ℕ). Sized (storeAt numbers bytes x)) (sym found)
-        (sized-of numbers bytes (sourcePort t c) (decoded (row t (sourcePort t c))) (port-fits (sourcePort t c) source-there))
+    source-sized = subst (λ (x : ℕ). Sized (storeAt numbers bytes x)) (sym found) (sized-at h (sourcePort t c) source-there)
 
-    module _ {numbers₁ : List ℕ} {l : Letter} (gone : Left numbers bytes numbers₁ k l) where
-      from : Left numbers bytes numbers₁ (sourcePort t c) l
-      from = subst (λ (x : ℕ). Left numbers bytes numbers₁ x l) found gone
+    -- how many messages it holds
+    module _ {w : ℕ} (counted : w ≡ getD (Held.rowOf numbers k) 4 0) where
+      held : w ≡ getD (Held.rowOf numbers (sourcePort t c)) 4 0
+      held = counted ∙ ap (λ x. getD (Held.rowOf numbers x) 4 0) found
 
-      ranged : PortRanged (row t (sourcePort t c)) (portAt numbers bytes (sourcePort t c))
-      ranged = h .each (sourcePort t c) source-there
+      -- where it holds a message
+      module _ (some : w ≡ 0 → ⊥) where
+        pub source-some : portAt numbers bytes k .queue ≡ [] → ⊥
+        source-some = some-held numbers bytes k counted some
 
-      abbrev rest : List Message
-      rest = portAt numbers₁ bytes (sourcePort t c) .queue
+        abbrev sourceRow : Row
+        sourceRow = row t (sourcePort t c)
 
-      -- what has left it fits, and what it keeps is in range
-      pub source-carried : Carried t c l
-      source-carried =
-          let r = row t (sourcePort t c) in
-          record { short = gone .short; fit = both-left (fits r (written l)) (allIn (fits r) rest) (rw (from .whole) at (ranged .sized)) }
+        abbrev source : Port
+        source = portAt numbers bytes (sourcePort t c)
 
-      pub source-held : length numbers₁ ≡ length numbers → Did.Held t lay numbers₁ bytes
-      source-held same =
-          held-put h (from .put) (left-ranged (row t (sourcePort t c)) (portAt numbers bytes (sourcePort t c)) (written l) rest (from .whole) ranged) same refl
+        ranged : PortRanged sourceRow source
+        ranged = h .each (sourcePort t c) source-there
 
-      -- the whole move, where there is a message
-      pub moved : {r : Answer} (time : ℕ) (numbers₂ bytes₂ : List ℕ) → Delivered t time c (written l) numbers₁ bytes numbers₂ bytes₂
-          → r ≡ toldAs (64 + c) nothingTold → Moved t time c r numbers bytes numbers₂ bytes₂
+        oldest : (m : Message) × (rest : List Message) × (source .queue ≡ m ∷ rest)
+        oldest = oldest-held numbers bytes (sourcePort t c) held some
+
+        -- the oldest fits its row
+        fit : fits sourceRow (oldest .0) ≡ true
+        fit = both-left (fits sourceRow (oldest .0)) (allIn (fits sourceRow) (oldest .1)) (rw (oldest .2) at (ranged .sized))
+
+        short : length (oldest .0) ≤ 64
+        short = omega (arith, between-high 1 (sourceRow .largest) (length (oldest .0)) fit, laws .rows (sourcePort t c) source-there .fewBytes)
+
+        module _ {numbers₁ : List ℕ} {l : Letter} (gone : TakesOldest numbers bytes numbers₁ k l) where
+          taken : (l ≡ letterOf (oldest .0)) × PortPut numbers bytes numbers₁ bytes (sourcePort t c) (withQueue source (oldest .1))
+          taken = subst (λ (x : ℕ). TakesOldest numbers bytes numbers₁ x l) found gone (oldest .0) (oldest .1) (oldest .2)
+
+          read : written l ≡ oldest .0
+          read = ap written (taken .0) ∙ written-letter (oldest .0) short
+
+          -- what is carried on fits, and what the source keeps is in range
+          pub source-carried : Carried t c l
+          source-carried = record { short = rw (taken .0) short; fit = rw read fit }
+
+          pub source-held : length numbers₁ ≡ length numbers → Did.Held t lay numbers₁ bytes
+          source-held same = held-put h (taken .1) (left-ranged sourceRow source (oldest .0) (oldest .1) (oldest .2) ranged) same refl
+
+          -- the whole move
+          pub moved : {r : Answer} (time : ℕ) (numbers₂ bytes₂ : List ℕ) → Delivered t time c (written l) numbers₁ bytes numbers₂ bytes₂
+              → r ≡ toldAs (64 + c) nothingTold → Moved t time c r numbers bytes numbers₂ bytes₂
+          unfolding transmit
+          moved {r} time numbers₂ bytes₂ all answered clock modes =
+              subst (λ (x : Reply). Does s x (64 + c) r (shown t clock modes numbers₂ bytes₂)) (sym asked)
+              (record { answered = answered; left = all clock modes ∙ ap₂ (λ m x. delivered t (λ k. time) c m (destinations t c) 0 x) read left })
+            where
+              s : State
+              s = shown t clock modes numbers bytes
+
+              at : port s (sourcePort t c) ≡ source
+              at = shown-port t clock modes numbers bytes (sourcePort t c) source-there
+
+              asked : transmit t (λ k. time) s c ≡ transmitOldest t (λ k. time) s c (oldest .0 ∷ oldest .1)
+              asked = ap (transmitOldest t (λ k. time) s c) (ap (λ q. q .queue) at ∙ oldest .2)
+
+              left : shown t clock modes numbers₁ bytes ≡ withPort s (sourcePort t c) (withQueue (port s (sourcePort t c)) (oldest .1))
+              left = shown-put t clock modes source-there (taken .1) ∙ ap (λ q. withPort s (sourcePort t c) (withQueue q (oldest .1))) (sym at)
+
+      -- and where there is none
+      pub unmoved : {r : Answer} (time : ℕ) → w ≡ 0 → r ≡ refusedAs 1 (64 + c) → Moved t time c r numbers bytes numbers bytes
       unfolding transmit
-      moved {r} time numbers₂ bytes₂ all answered clock modes =
-          subst (λ (x : Reply). Does s x (64 + c) r (shown t clock modes numbers₂ bytes₂)) (sym oldest)
-          (record { answered = answered; left = all clock modes ∙ ap (delivered t (λ k. time) c (written l) (destinations t c) 0) taken })
+      unmoved {r} time none answered clock modes =
+          subst (λ (x : Reply). Does s x (64 + c) r s) (sym asked) (record { answered = answered; left = refl })
         where
           s : State
           s = shown t clock modes numbers bytes
 
-          at : port s (sourcePort t c) ≡ portAt numbers bytes (sourcePort t c)
-          at = port-shown t clock modes numbers bytes (sourcePort t c) source-there
-
-          oldest : transmit t (λ k. time) s c ≡ transmitOldest t (λ k. time) s c (written l ∷ rest)
-          oldest = ap (transmitOldest t (λ k. time) s c) (ap (λ q. q .queue) at ∙ from .whole)
-
-          taken : shown t clock modes numbers₁ bytes ≡ withPort s (sourcePort t c) (withQueue (port s (sourcePort t c)) rest)
-          taken = put-shown t clock modes source-there (from .put) ∙ ap (λ q. withPort s (sourcePort t c) (withQueue q rest)) (sym at)
-
-    -- and where there is none
-    pub unmoved : {r : Answer} (time : ℕ) → getD (Held.rowOf numbers k) 4 0 ≡ 0 → r ≡ refusedAs 1 (64 + c) → Moved t time c r numbers bytes numbers bytes
-    unfolding transmit
-    unmoved {r} time none answered clock modes =
-        subst (λ (x : Reply). Does s x (64 + c) r s) (sym oldest) (record { answered = answered; left = refl })
-      where
-        s : State
-        s = shown t clock modes numbers bytes
-
-        empty : portAt numbers bytes (sourcePort t c) .queue ≡ []
-        empty = subst (λ (x : ℕ). portAt numbers bytes x .queue ≡ []) found (sym (store-queue numbers bytes k) ∙ queue-empty (storeAt numbers bytes k) (store-count numbers bytes k ∙ none))
-
-        oldest : transmit t (λ k. time) s c ≡ transmitOldest t (λ k. time) s c []
-        oldest = ap (transmitOldest t (λ k. time) s c) (ap (λ q. q .queue) (port-shown t clock modes numbers bytes (sourcePort t c) source-there) ∙ empty)
+          asked : transmit t (λ k. time) s c ≡ transmitOldest t (λ k. time) s c []
+          asked =
+              ap (transmitOldest t (λ k. time) s c)
+              (ap (λ q. q .queue) (shown-port t clock modes numbers bytes (sourcePort t c) source-there) ∙ none-held numbers bytes (sourcePort t c) held none)

@@ -1,98 +1,32 @@
--- What the proofs of the mover lean on, of one port: the oldest message leaves it, a message arrives at it, it is put in its ranges, and what is shown of it.
+-- What the proofs of the mover lean on, of one port: a message arrives at it, and it is put in its ranges.
 -- Channels has the laws of a channel and of the whole move.
 -- Assumes nothing.
 use Prim.Native.Nat.{ℕ, _≤_, _<_}
-use mathlib.Core.Path.{_≡_, refl, sym, _∙_, ap, subst}
+use mathlib.Core.Path.{_≡_, refl, sym, _∙_, ap}
 use mathlib.Core.Bool.{Bool, true, false, _||_}
 use mathlib.Core.List.{List, _∷_}
 use mathlib.Core.Logic.{⊎-elim}
 use native.Mathlib.Omega.{arith}
 use lib.Dec.{eqb, eqb·suc-zero}
-use lib.ListN.{length, getD, set}
+use lib.ListN.{length, set}
 use borrow.Author.Tests.{eq-eqb, eqb-true, eqb-false}
 use Rattle.model.specs.Words.{allIn}
 use Rattle.model.specs.Tables.{Tables, Row, row}
 use Rattle.model.specs.Tables.{ports as portCount}
-use Rattle.model.specs.State.{Message, Clock, Port, port, withPort, withQueue, isCreated}
+use Rattle.model.specs.State.{Message, Port, withQueue, isCreated}
 use Rattle.model.specs.Services.{stored, arrived}
 use Rattle.model.proofs.Tests.{both-right}
 use Rattle.model.proofs.Ranges.{fits, PortRanged}
 use Rattle.model.proofs.Rows.{RowRanges}
 use Rattle.tables.specs.Shown.{rowOf}
 use Rattle.tables.specs.declared.PortRow.{PortRow}
-use Rattle.stores.specs.declared.Store.{Store}
-use Rattle.stores.specs.declared.Letter.{Letter}
-use Rattle.stores.specs.Ring.{Sized, queueOf, written, dropped, oldestOf}
-use Rattle.stores.proofs.Laws.{queue-oldest, oldest-size}
 use Rattle.ports.specs.Held
-use Rattle.ports.specs.Held.{blockOf, storeAt, portIn, portAt, RowPut, PortPut}
-use Rattle.ports.proofs.Rows.{row-again, row-is}
-use Rattle.ports.proofs.Ports.{ports-put, ports-at, port-put, block-kept, put-is, store-queue, store-count, store-lengths, store-bytes}
+use Rattle.ports.specs.Held.{portAt, RowPut, PortPut}
+use Rattle.ports.proofs.Marks.{put-arrival}
 use Rattle.services.specs.declared.Layout.{Layout}
-use Rattle.services.specs.Served.{Lent}
 use Rattle.services.specs.Did
-use Rattle.services.specs.Did.{shown}
-use Rattle.moves.specs.Moved.{Left}
-
--- ---- the source
-
--- a store that counts a message holds one
-pub some-stored : (numbers bytes : List ℕ) (k : ℕ) → 0 < getD (Held.rowOf numbers k) 4 0 → 0 < storeAt numbers bytes k .count
-some-stored numbers bytes k h = rw (store-count numbers bytes k) h
-
--- the two numbers of a dropped message set in a row
-dropped-row : (numbers bytes : List ℕ) (k : ℕ)
-    → portIn (set (set (Held.rowOf numbers k) 3 (dropped (storeAt numbers bytes k) .oldest)) 4 (dropped (storeAt numbers bytes k) .count)) (blockOf bytes k)
-    ≡ withQueue (portAt numbers bytes k) (queueOf (dropped (storeAt numbers bytes k)))
-unfolding portAt storeAt Held.rowOf dropped
-dropped-row numbers bytes k = refl
-
--- take_oldest: with these two numbers set, the oldest message has left
-module _ (numbers bytes : List ℕ) (k : ℕ) (lent : Lent numbers bytes k) (sized : Sized (storeAt numbers bytes k)) (some : 0 < getD (Held.rowOf numbers k) 4 0) where
-  pub left : {numbers₁ numbers₂ : List ℕ} {o n : ℕ} {l : Letter} → l ≡ oldestOf (storeAt numbers bytes k)
-      → o ≡ dropped (storeAt numbers bytes k) .oldest → n ≡ dropped (storeAt numbers bytes k) .count
-      → RowPut numbers numbers₁ k (set (Held.rowOf numbers k) 3 o) → RowPut numbers₁ numbers₂ k (set (Held.rowOf numbers₁ k) 4 n)
-      → Left numbers bytes numbers₂ k l
-  left {numbers₁} {numbers₂} {o} {n} {l} head oldest count first second =
-      record {
-        short = subst (λ (x : Letter). x .size ≤ 64) (sym head) (oldest-size st wide eight sized (some-stored numbers bytes k some));
-        whole =
-            sym (store-queue numbers bytes k)
-            ∙ queue-oldest st wide eight sized (some-stored numbers bytes k some)
-            ∙ ap (λ m. m ∷ queueOf (dropped st)) (ap written (sym head))
-            ∙ ap (λ q. written l ∷ q) (sym rest);
-        put = put-is gone (ap (withQueue (portAt numbers bytes k)) (sym rest));
-      }
-    where
-      st : Store
-      st = storeAt numbers bytes k
-
-      wide : length (st .bytes) ≡ 512
-      wide = store-bytes numbers bytes k (lent .blocks) (lent .there)
-
-      eight : length (st .lengths) ≡ 8
-      eight = store-lengths numbers bytes k
-
-      turned : RowPut numbers numbers₂ k (set (set (Held.rowOf numbers k) 3 (dropped st .oldest)) 4 (dropped st .count))
-      turned =
-          row-again first
-          (row-is second
-          (ap (λ r. set r 4 n) (first .here)
-          ∙ ap (λ x. set (set (Held.rowOf numbers k) 3 x) 4 n) oldest
-          ∙ ap (λ x. set (set (Held.rowOf numbers k) 3 (dropped st .oldest)) 4 x) count))
-
-      gone : PortPut numbers bytes numbers₂ bytes k (withQueue (portAt numbers bytes k) (queueOf (dropped st)))
-      gone = put-is (port-put turned (block-kept bytes k)) (dropped-row numbers bytes k)
-
-      rest : portAt numbers₂ bytes k .queue ≡ queueOf (dropped st)
-      rest = ap (λ q. q .queue) (gone .here)
 
 -- ---- one destination
-
--- the created mark is the row's first number
-pub created-is : (numbers bytes : List ℕ) (k : ℕ) → getD (Held.rowOf numbers k) 0 0 ≡ portAt numbers bytes k .created
-unfolding portAt
-created-is numbers bytes k = refl
 
 -- a row's mode as a bound, which arithmetic can use
 pub mode-bit : (row : PortRow) → RowRanges (rowOf row) → rowOf row .mode ≤ 1
@@ -113,25 +47,15 @@ module _ (time : ℕ) (r : Row) (m : Message) (d : Port) where
   unfolding arrived
   arrived-sampling e q = rw (eq-eqb (d .created) 1 e, q)
 
--- a port with another arrival time
-abbrev stamped : ℕ → Port → Port
-stamped time q = record { created = q .created; arrival = time; validity = q .validity; queue = q .queue }
-
-stamped-row : (numbers bytes : List ℕ) (k time : ℕ) → portIn (set (Held.rowOf numbers k) 2 time) (blockOf bytes k) ≡ stamped time (portAt numbers bytes k)
-unfolding portAt Held.rowOf
-stamped-row numbers bytes k time = refl
-
 -- a port put, and then its arrival time set
 pub put-stamped : {numbers bytes numbers₁ bytes₁ numbers₂ : List ℕ} {k time : ℕ} {q : Port} → PortPut numbers bytes numbers₁ bytes₁ k q
-    → RowPut numbers₁ numbers₂ k (set (Held.rowOf numbers₁ k) 2 time) → PortPut numbers bytes numbers₂ bytes₁ k (stamped time q)
-put-stamped {numbers} {bytes} {numbers₁} {bytes₁} {numbers₂} {k} {time} {q} p r =
+    → RowPut numbers₁ numbers₂ k (set (Held.rowOf numbers₁ k) 2 time) → PortPut numbers bytes numbers₂ bytes₁ k (record { created = q .created; arrival = time; validity = q .validity; queue = q .queue })
+put-stamped {numbers₁ = numbers₁} {bytes₁ = bytes₁} {k = k} {time = time} p r =
+    let again = put-arrival numbers₁ bytes₁ k time r in
     record {
-      here = again .here ∙ stamped-row numbers₁ bytes₁ k time ∙ ap (stamped time) (p .here);
+      here = again .here ∙ ap (λ q. record { created = q .created; arrival = time; validity = q .validity; queue = q .queue }) (p .here);
       elsewhere = λ j other. again .elsewhere j other ∙ p .elsewhere j other;
     }
-  where
-    again : PortPut numbers₁ bytes₁ numbers₂ bytes₁ k (portIn (set (Held.rowOf numbers₁ k) 2 time) (blockOf bytes₁ k))
-    again = port-put r (block-kept bytes₁ k)
 
 -- ---- ports of the lent arrays in their ranges
 
@@ -160,12 +84,3 @@ held-put {t} {lay} {numbers} {bytes} {numbers'} {bytes'} {k} {q} h p ranged same
     go : (j : ℕ) → j < portCount t → (b : Bool) → eqb j k ≡ b → PortRanged (row t j) (portAt numbers' bytes' j)
     go j l true e = rw (eqb-true j k e, p .here) ranged
     go j l false e = rw (p .elsewhere j (eqb-false j k e)) (h .each j l)
-
--- in the state that the arrays show
-module _ (t : Tables) (clock : Clock) (modes : List ℕ) where
-  pub port-shown : (numbers bytes : List ℕ) (k : ℕ) → k < portCount t → port (shown t clock modes numbers bytes) k ≡ portAt numbers bytes k
-  port-shown numbers bytes k l = ports-at numbers bytes (portCount t) k l
-
-  pub put-shown : {numbers bytes numbers' bytes' : List ℕ} {k : ℕ} {q : Port} → k < portCount t → PortPut numbers bytes numbers' bytes' k q
-      → shown t clock modes numbers' bytes' ≡ withPort (shown t clock modes numbers bytes) k q
-  put-shown l p = ap (λ (qs : List Port). record { clock = clock; modes = modes; ports = qs }) (ports-put (portCount t) l p)

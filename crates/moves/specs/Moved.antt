@@ -1,11 +1,11 @@
--- A channel's move over the lent arrays, against the model's: one destination, all of them, the source, and the whole.
+-- A channel's move over the lent arrays, against the model's: one destination, all of them, and the whole.
 -- Assumes nothing.
 use Prim.Native.Nat.{ℕ, _+_, _≤_}
 use mathlib.Core.Path.{_≡_}
 use mathlib.Core.Bool.{true}
-use mathlib.Core.List.{List, _∷_}
+use mathlib.Core.List.{List}
 use Rattle.model.specs.Tables.{Tables, Row, row, sourcePort, destinations}
-use Rattle.model.specs.State.{Message, Clock, withQueue}
+use Rattle.model.specs.State.{Message, Clock}
 use Rattle.model.specs.Services.{arrived, delivered, transmit}
 use Rattle.model.specs.Step.{firstChannel}
 use Rattle.model.proofs.Ranges.{fits}
@@ -24,12 +24,6 @@ Arrived time r m k numbers bytes numbers' bytes' =
 pub record Carried (t : Tables) (c : ℕ) (l : Letter) : Type 0 where
   pub short : l .size ≤ 64
   pub fit : fits (row t (sourcePort t c)) (written l) ≡ true
-
--- the oldest message of port k has left it as the letter l: it and the port's messages are the messages before, and nothing else has changed
-pub record Left (numbers bytes numbers' : List ℕ) (k : ℕ) (l : Letter) : Type 0 where
-  pub short : l .size ≤ 64
-  pub whole : portAt numbers bytes k .queue ≡ written l ∷ portAt numbers' bytes k .queue
-  pub put : PortPut numbers bytes numbers' bytes k (withQueue (portAt numbers bytes k) (portAt numbers' bytes k .queue))
 
 -- the message has come to all destinations of channel c. Clock and modes have no part in it, so it is said for any
 abbrev pub Delivered : (t : Tables) → (time c : ℕ) → Message → (numbers bytes numbers' bytes' : List ℕ) → Type 0

@@ -5,12 +5,11 @@ ghost use Prim.Native.Nat.{_<_, _≤_};
 ghost use lib.ListN.{length, getD};
 ghost use Rattle.model.specs.Tables.{row, destinations, destinationPort};
 ghost use Rattle.tables.specs.Shown.{rowOf};
-ghost use Rattle.stores.specs.Ring.{written, Sized};
+ghost use Rattle.stores.specs.Ring.{written};
 ghost use Rattle.ports.specs.Held;
-ghost use Rattle.ports.specs.Held.{storeAt};
-ghost use Rattle.services.specs.Served.{Lent, Fits};
+ghost use Rattle.services.specs.Served.{Fits};
 ghost use Rattle.services.specs.Did.{Held};
-ghost use Rattle.moves.specs.Moved.{Arrived, Left, Carried, Delivered, Moved};
+ghost use Rattle.moves.specs.Moved.{Arrived, Carried, Delivered, Moved};
 use events::Answer;
 use services::Layout;
 use stores::Letter;
@@ -78,20 +77,6 @@ fn deliver(
     }
 }
 
-// The oldest message leaves the store of port k. Its bytes stay in their slot, which no longer counts.
-fn take_oldest(numbers: &mut [u32], bytes: &[u8], k: usize) -> Letter
-    requires { ⌜ Lent (now numbers) (now bytes) k ⌝ }
-    requires { ⌜ Sized (storeAt (now numbers) (now bytes) k) × (0 < getD (Held.rowOf (now numbers) k) 4 0) ⌝ }
-    ensures { λ l. ⌜ Left (now (numbers .entry)) (now (bytes .entry)) (now (numbers .exit)) k l ⌝ }
-{
-    let st = ports::take_store(numbers, bytes, k);
-    let l = stores::oldest(st);
-    let rest = stores::drop_oldest(st);
-    ports::set_number(numbers, k, ports::OLDEST, rest.oldest);
-    ports::set_number(numbers, k, ports::COUNT, rest.count);
-    l
-}
-
 // How many messages port k has for its channel to move: all that it holds. What the destinations are like holds none of them back.
 fn waiting(numbers: &[u32], k: usize) -> u32
     requires { ⌜ (length (now numbers) ≡ 832) × (k < 64) ⌝ }
@@ -118,7 +103,7 @@ pub fn transmit(
     if waiting(numbers, k) == 0 {
         return events::refusal(1, doer);
     }
-    let l = take_oldest(numbers, bytes, k);
+    let l = services::take_oldest(numbers, bytes, k);
     deliver(t, lay, numbers, bytes, time, c, l);
     events::done(doer)
 }

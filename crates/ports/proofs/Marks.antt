@@ -1,6 +1,6 @@
 -- One number of a port's row set: which field of the port that is.
 -- Assumes nothing.
-use Prim.Native.Nat.{ℕ, _-_}
+use Prim.Native.Nat.{ℕ}
 use mathlib.Core.Path.{refl, ap}
 use mathlib.Core.List.{List, []}
 use lib.ListN.{set}

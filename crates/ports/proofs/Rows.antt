@@ -8,7 +8,7 @@ use native.Mathlib.Nat.{add-zero}
 use native.Mathlib.Omega.{arith}
 use lib.ListN.{length, getD, take, drop, set, length-take, length-drop, List·getD-append}
 use native.Mathlib.Numerals.{add-one}
-use lib.Seq.{getD-set-same, getD-set-other, ext-getD, getD-take, getD-drop, take-suc, take-suc-set, paste, paste-suc, length-paste, length-paste-head, drop-paste, drop-at, take-at, take-all, length-take-le}
+use lib.Seq.{getD-set-same, getD-set-other, ext-getD, getD-take, getD-drop, take-suc, take-suc-set, paste, length-paste, length-paste-head, drop-paste, drop-at, take-at, take-all, length-take-le}
 use Rattle.model.proofs.Tests.{three}
 use Rattle.ports.specs.Held.{numbersFrom, rowOf, blockOf, RowPut, BlockPut}
 
@@ -56,10 +56,6 @@ row-at numbers k j h = numbers-at numbers 13 (13 * k) j h
 pub fill-next : (to from : List ℕ) (i : ℕ) → i < length to → i < length from → take i to ≡ take i from → take (i + 1) (set to i (getD from i 0)) ≡ take (i + 1) from
 fill-next to from i l m e =
     rw (add-one, take-suc-set to i (getD from i 0) l, take-suc from i 0 m) (ap (λ x. x ++ getD from i 0 ∷ []) e)
-
--- a turn of a loop that copies into the middle of a list
-pub paste-next : (d s : List ℕ) (at j : ℕ) → at + j < length d → j < length s → set (paste d at s j) (at + j) (getD s j 0) ≡ paste d at s (j + 1)
-paste-next d s at j l m = paste-suc d at s j 0 l m ∙ ap (paste d at s) (sym (add-one j))
 
 -- outside of what is copied nothing changes
 pub paste-other : (d s : List ℕ) (at n i : ℕ) → at + n ≤ length d → n ≤ length s → (i < at) ⊎ (at + n ≤ i) → getD (paste d at s n) i 0 ≡ getD d i 0

@@ -1,6 +1,5 @@
 // The ports of a state in two lent arrays, and the store of one of them taken out by value and put back.
 ghost use mathlib.Core.Path.{_≡_};
-ghost use mathlib.Core.List.{_∷_};
 ghost use Prim.Native.Nat.{_+_, _*_, _<_};
 ghost use lib.Seq.{paste};
 ghost use lib.ListN.{length, getD, set, drop};

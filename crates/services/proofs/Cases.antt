@@ -1,28 +1,23 @@
--- The model's services case by case, each from the tests that lead to it, and the two ways in which code meets one.
+-- The model's services case by case, each from the tests that lead to it.
 -- Assumes nothing.
 use Prim.Native.Nat.{ℕ, _≤_, _<_}
-use mathlib.Core.Path.{_≡_, refl, sym, subst}
+use mathlib.Core.Path.{_≡_, refl}
 use mathlib.Core.Bool.{true, false}
 use mathlib.Core.List.{List, [], _∷_}
-use native.Mathlib.Omega.{arith}
-use lib.ListN.{length}
+use mathlib.Core.Logic.{_⊎_, inl, inr}
 use borrow.Author.Tests.{eq-eqb, ne-eqb, lt-ltb, le-ltb}
 use Rattle.model.specs.Tables.{Row}
 use Rattle.model.specs.State.{Message, Port, withQueue, valid}
 use Rattle.model.specs.Events.{Event, Call, need, messageOf}
-use Rattle.model.specs.Answers.{Told, nothingTold, toldMessage}
-use Rattle.model.specs.Services.{Served, refuses, serves, directed, stored, put, mark, readOldest, takeOldest, get, cleared, status, serve}
+use Rattle.model.specs.Answers.{nothingTold, toldMessage}
+use Rattle.model.specs.Services.{refuses, serves, directed, stored, put, mark, readOldest, takeOldest, get, cleared, status, serve}
 use Rattle.events.specs.declared.answers.Answer.{Answer}
-use Rattle.events.specs.Shown.{refusedAs, toldAs}
-use Rattle.ports.specs.Held.{PortPut}
-use Rattle.services.specs.Served.{Serves}
+use Rattle.events.specs.Shown.{refusedAs}
+use Rattle.services.specs.Served.{Refuses}
 
-pub refuse-as : (numbers bytes : List ℕ) (k doer code : ℕ) (r : Answer) {x : Served} → x ≡ refuses code → r ≡ refusedAs code doer → Serves numbers bytes numbers bytes k doer r x
-refuse-as numbers bytes k doer code r {x} e a =
-    subst (Serves numbers bytes numbers bytes k doer r) (sym e) (record { answered = a; numbersKept = refl; bytesKept = refl })
-
-pub serve-as : {numbers bytes numbers' bytes' : List ℕ} {k : ℕ} (doer : ℕ) {r : Answer} {x : Served} {v : Told} {q : Port} → x ≡ serves v q → r ≡ toldAs doer v → PortPut numbers bytes numbers' bytes' k q → Serves numbers bytes numbers' bytes' k doer r x
-serve-as {numbers} {bytes} {numbers'} {bytes'} {k} doer {r} e a p = subst (Serves numbers bytes numbers' bytes' k doer r) (sym e) (a, p)
+-- a refusal leaves the lent arrays as they are
+pub kept : {numbers bytes : List ℕ} {doer code : ℕ} {r : Answer} → r ≡ refusedAs code doer → Refuses numbers bytes numbers bytes doer code r
+kept a = record { answered = a; numbersKept = refl; bytesKept = refl }
 
 -- 2 and 7
 module _ (r : Row) (e : Event) (f : Call) (q : Port) where
@@ -44,23 +39,13 @@ module _ (r : Row) (e : Event) (f : Call) (q : Port) where
   put-stored a b d = rw (ne-eqb (f .size) 0 a, le-ltb (r .largest) (f .size) b, d)
 
 -- 3
-pub read-none : (refresh time : ℕ) (q : Port) {queue : List Message} → queue ≡ [] → readOldest refresh time q queue ≡ refuses 1
-read-none refresh time q e = rw e
-
 pub read-some : (refresh time : ℕ) (q : Port) {queue : List Message} (m : Message) (rest : List Message) → queue ≡ m ∷ rest
     → readOldest refresh time q queue
     ≡ serves (toldMessage m (mark (valid refresh time (q .arrival))))
     (record { created = q .created; arrival = q .arrival; validity = mark (valid refresh time (q .arrival)); queue = q .queue })
 read-some refresh time q m rest e = rw e
 
--- 8
-pub take-none : (q : Port) {queue : List Message} → queue ≡ [] → takeOldest q queue ≡ refuses 2
-take-none q e = rw e
-
-pub take-some : (q : Port) {queue : List Message} (m : Message) (rest : List Message) → queue ≡ m ∷ rest → takeOldest q queue ≡ serves (toldMessage m 0) (withQueue q rest)
-take-some q m rest e = rw e
-
--- 3, 8 and 11: the direction
+-- 3 and 8: the direction, then the code
 module _ (time : ℕ) (r : Row) (f : Call) (q : Port) where
   pub get-wrong : directed (need (f .code)) r ≡ false → get time r f q ≡ refuses 5
   unfolding get
@@ -74,6 +59,8 @@ module _ (time : ℕ) (r : Row) (f : Call) (q : Port) where
   unfolding get
   get-receive d n = simp (d, ne-eqb (f .code) 3 n)
 
+-- 11
+module _ (r : Row) (f : Call) (q : Port) where
   pub clear-wrong : directed (need (f .code)) r ≡ false → cleared r f q ≡ refuses 5
   unfolding cleared
   clear-wrong d = rw d
@@ -82,41 +69,23 @@ module _ (time : ℕ) (r : Row) (f : Call) (q : Port) where
   unfolding cleared
   clear-done d = rw d
 
--- a list that is not empty has a first element
-pub some-message : (queue : List Message) → (length queue ≡ 0 → ⊥) → (m : Message) × (rest : List Message) × (queue ≡ m ∷ rest)
-some-message [] h = absurd (h refl)
-some-message (m ∷ rest) h = (m, rest, refl)
-
-pub no-message : (queue : List Message) → length queue ≡ 0 → queue ≡ []
-no-message [] h = refl
-no-message (m ∷ rest) h = absurd (omega arith)
-
 -- the services of an own port, by code
 module _ (time : ℕ) (r : Row) (e : Event) (f : Call) (q : Port) where
-  pub serve-write : f .code ≡ 2 → serve time r e f q ≡ put r e f q
+  pub serve-put : (f .code ≡ 2) ⊎ (f .code ≡ 7) → serve time r e f q ≡ put r e f q
   unfolding serve
-  serve-write a = rw (eq-eqb (f .code) 2 a)
+  serve-put (inl a) = rw a
+  serve-put (inr a) = rw a
 
-  module _ (n2 : f .code ≡ 2 → ⊥) where
-    pub serve-send : f .code ≡ 7 → serve time r e f q ≡ put r e f q
-    unfolding serve
-    serve-send a = rw (ne-eqb (f .code) 2 n2, eq-eqb (f .code) 7 a)
+  pub serve-get : (f .code ≡ 3) ⊎ (f .code ≡ 8) → serve time r e f q ≡ get time r f q
+  unfolding serve
+  serve-get (inl a) = rw a
+  serve-get (inr a) = rw a
 
-    module _ (n7 : f .code ≡ 7 → ⊥) where
-      pub serve-read : f .code ≡ 3 → serve time r e f q ≡ get time r f q
-      unfolding serve
-      serve-read a = rw (ne-eqb (f .code) 2 n2, ne-eqb (f .code) 7 n7, eq-eqb (f .code) 3 a)
+  pub serve-clear : f .code ≡ 11 → serve time r e f q ≡ cleared r f q
+  unfolding serve
+  serve-clear a = rw a
 
-      module _ (n3 : f .code ≡ 3 → ⊥) where
-        pub serve-receive : f .code ≡ 8 → serve time r e f q ≡ get time r f q
-        unfolding serve
-        serve-receive a = rw (ne-eqb (f .code) 2 n2, ne-eqb (f .code) 7 n7, ne-eqb (f .code) 3 n3, eq-eqb (f .code) 8 a)
-
-        module _ (n8 : f .code ≡ 8 → ⊥) where
-          pub serve-clear : f .code ≡ 11 → serve time r e f q ≡ cleared r f q
-          unfolding serve
-          serve-clear a = rw (ne-eqb (f .code) 2 n2, ne-eqb (f .code) 7 n7, ne-eqb (f .code) 3 n3, ne-eqb (f .code) 8 n8, eq-eqb (f .code) 11 a)
-
-          pub serve-status : (f .code ≡ 11 → ⊥) → serve time r e f q ≡ serves (status r q) q
-          unfolding serve
-          serve-status a = rw (ne-eqb (f .code) 2 n2, ne-eqb (f .code) 7 n7, ne-eqb (f .code) 3 n3, ne-eqb (f .code) 8 n8, ne-eqb (f .code) 11 a)
+  pub serve-status : ((f .code ≡ 2) ⊎ (f .code ≡ 7) → ⊥) → ((f .code ≡ 3) ⊎ (f .code ≡ 8) → ⊥) → (f .code ≡ 11 → ⊥) → serve time r e f q ≡ serves (status r q) q
+  unfolding serve
+  serve-status a b n =
+      rw (ne-eqb (f .code) 2 (λ x. a (inl x)), ne-eqb (f .code) 7 (λ x. a (inr x)), ne-eqb (f .code) 3 (λ x. b (inl x)), ne-eqb (f .code) 8 (λ x. b (inr x)), ne-eqb (f .code) 11 n)

@@ -1,6 +1,6 @@
 -- What the services' proofs lean on: a message offered, stored, and the store of a port that is in range.
 -- Assumes nothing.
-use Prim.Native.Nat.{ℕ, zero, suc, _+_, _≤_, _<_}
+use Prim.Native.Nat.{ℕ, zero, suc, _≤_, _<_}
 use mathlib.Core.Path.{_≡_, refl, sym, _∙_, ap}
 use mathlib.Core.Bool.{true}
 use mathlib.Core.List.{List, [], _∷_, _++_}
@@ -26,7 +26,7 @@ use Rattle.stores.specs.Ring.{Sized, queueOf, slotOf, written, letterOf, append
 use Rattle.stores.proofs.Laws.{queue-length, queue-at, message-length, queue-appended, queue-none, queue-empty, queue-dropped, written-letter}
 use Rattle.ports.specs.Held
 use Rattle.ports.specs.Held.{storeAt, portAt}
-use Rattle.ports.proofs.Ports.{store-queue, store-count, store-lengths, store-bytes}
+use Rattle.ports.proofs.Ports.{count-is, store-queue, store-count, store-lengths, store-bytes}
 use Rattle.services.specs.Served.{Lent, Fits}
 
 -- a full store loses the message, and one with room takes it
@@ -95,6 +95,25 @@ few-written e size h = simp length-take (omega arith)
 
 pub written-back : (e : List ℕ) (size : ℕ) → size ≤ 64 → written (letterOf (take size (drop 16 e))) ≡ messageOf e size
 written-back e size h = written-letter (take size (drop 16 e)) (few-written e size h)
+
+-- what a port holds, by the count that its row has
+some-message : (queue : List Message) → (length queue ≡ 0 → ⊥) → (m : Message) × (rest : List Message) × (queue ≡ m ∷ rest)
+some-message [] h = absurd (h refl)
+some-message (m ∷ rest) h = (m, rest, refl)
+
+no-message : (queue : List Message) → length queue ≡ 0 → queue ≡ []
+no-message [] h = refl
+no-message (m ∷ rest) h = absurd (omega arith)
+
+module _ (numbers bytes : List ℕ) (k : ℕ) {n : ℕ} (counted : n ≡ getD (Held.rowOf numbers k) 4 0) where
+  pub none-held : n ≡ 0 → portAt numbers bytes k .queue ≡ []
+  none-held e = no-message (portAt numbers bytes k .queue) (sym (count-is numbers bytes k) ∙ sym counted ∙ e)
+
+  pub some-held : (n ≡ 0 → ⊥) → portAt numbers bytes k .queue ≡ [] → ⊥
+  some-held some e = some (counted ∙ count-is numbers bytes k ∙ ap length e)
+
+  pub oldest-held : (n ≡ 0 → ⊥) → (m : Message) × (rest : List Message) × (portAt numbers bytes k .queue ≡ m ∷ rest)
+  oldest-held some = some-message (portAt numbers bytes k .queue) (λ e. some (counted ∙ count-is numbers bytes k ∙ e))
 
 -- a port that holds a message: its store's count, and the store without its oldest message
 pub some-count : (numbers bytes : List ℕ) (k : ℕ) → (portAt numbers bytes k .queue ≡ [] → ⊥) → 0 < storeAt numbers bytes k .count

@@ -8,7 +8,7 @@ use lib.ListN.{length}
 use Rattle.model.specs.Tables.{Tables, windows, channels, row}
 use Rattle.model.specs.Tables.{ports as portCount}
 use Rattle.model.specs.Load.{accepts}
-use Rattle.model.specs.State.{Clock, Port, State}
+use Rattle.model.specs.State.{Clock, State}
 use Rattle.model.specs.Services.{Reply}
 use Rattle.model.specs.Step.{stateOf}
 use Rattle.model.proofs.Ranges.{PortRanged}

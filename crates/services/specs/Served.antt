@@ -1,10 +1,9 @@
 -- A service at one port, against the model's: the answer that it gives, and the port that it leaves in the lent arrays.
 -- Assumes nothing.
-use Prim.Native.Nat.{ℕ, _≤_, _<_}
+use Prim.Native.Nat.{ℕ, _<_}
 use mathlib.Core.Path.{_≡_}
 use mathlib.Core.List.{List, _∷_}
 use lib.ListN.{length}
-use Rattle.model.specs.Tables.{Row}
 use Rattle.model.specs.State.{Message, withQueue}
 use Rattle.stores.specs.declared.Letter.{Letter}
 use Rattle.stores.specs.Ring.{letterOf}

@@ -1,16 +1,15 @@
 // A message read, received or cleared at a destination port.
 ghost use mathlib.Core.Path.{_≡_};
 ghost use mathlib.Core.Bool.{true};
-ghost use mathlib.Core.List.{List, [], _∷_};
-ghost use Prim.Native.Nat.{ℕ};
-ghost use Rattle.model.specs.State.{Message, valid, withQueue};
+ghost use mathlib.Core.List.{[]};
+ghost use Rattle.model.specs.State.{Message, valid};
 ghost use Rattle.model.specs.Events.{known};
 ghost use Rattle.model.specs.Answers.{toldMessage};
 ghost use Rattle.model.specs.Services.{mark, readOldest, takeOldest, get, cleared};
 ghost use Rattle.tables.specs.Shown.{rowOf};
 ghost use Rattle.events.specs.Shown.{callOf, toldAs};
-ghost use Rattle.stores.specs.Ring.{letterOf};
-ghost use Rattle.ports.specs.Held.{portAt, PortPut};
+ghost use Rattle.stores.specs.Ring.{Sized, letterOf};
+ghost use Rattle.ports.specs.Held.{storeAt, portAt};
 ghost use Rattle.services.specs.Served.{Lent, Fits, Serves, TakesOldest};
 use events::Answer;
 use events::Fields;
@@ -47,8 +46,8 @@ pub fn validity(refresh: u32, time: u32, arrival: u32) -> u8
 }
 
 // The oldest message of a port that holds one, removed. Its bytes stay in their slot, which no longer counts.
-pub fn take_oldest(numbers: &mut [u32], bytes: &[u8], k: usize, row: PortRow) -> Letter
-    requires { ⌜ Fits (now numbers) (now bytes) k row ⌝ }
+pub fn take_oldest(numbers: &mut [u32], bytes: &[u8], k: usize) -> Letter
+    requires { ⌜ Lent (now numbers) (now bytes) k × Sized (storeAt (now numbers) (now bytes) k) ⌝ }
     requires { ⌜ (portAt (now numbers) (now bytes) k .queue ≡ [] → ⊥) ⌝ }
     ensures { λ r. ⌜ TakesOldest (now (numbers .entry)) (now (bytes .entry)) (now (numbers .exit)) k r ⌝ }
 {
@@ -86,14 +85,14 @@ pub fn read(
 }
 
 // 8: empty, 2; else the oldest message, removed.
-pub fn receive(numbers: &mut [u32], bytes: &[u8], k: usize, row: PortRow, doer: u8) -> Answer
-    requires { ⌜ Fits (now numbers) (now bytes) k row ⌝ }
+pub fn receive(numbers: &mut [u32], bytes: &[u8], k: usize, doer: u8) -> Answer
+    requires { ⌜ Lent (now numbers) (now bytes) k × Sized (storeAt (now numbers) (now bytes) k) ⌝ }
     ensures { λ r. ⌜ Serves (now (numbers .entry)) (now (bytes .entry)) (now (numbers .exit)) (now (bytes .entry)) k doer r (takeOldest (portAt (now (numbers .entry)) (now (bytes .entry)) k) (portAt (now (numbers .entry)) (now (bytes .entry)) k .queue)) ⌝ }
 {
     if ports::number(numbers, k, ports::COUNT) == 0 {
         return events::refusal(2, doer);
     }
-    told_message(doer, take_oldest(numbers, bytes, k, row), 0)
+    told_message(doer, take_oldest(numbers, bytes, k), 0)
 }
 
 // 3 and 8: not a destination, 5.
@@ -116,7 +115,7 @@ pub fn get(
     if f.code == 3 {
         return read(numbers, bytes, k, row, time, doer);
     }
-    receive(numbers, bytes, k, row, doer)
+    receive(numbers, bytes, k, doer)
 }
 
 // 11: not a destination, 5; else emptied.

@@ -64,20 +64,10 @@ pub fn serve(
     ensures { λ r. ⌜ Serves (now (numbers .entry)) (now (bytes .entry)) (now (numbers .exit)) (now (bytes .exit)) k doer r (serve time (rowOf row) (now (event .entry)) (callOf f) (portAt (now (numbers .entry)) (now (bytes .entry)) k)) ⌝ }
 {
     let code = f.code;
-    if code == 2 {
-        return put(numbers, bytes, k, row, event, f, doer);
+    match code {
+        2 | 7 => put(numbers, bytes, k, row, event, f, doer),
+        3 | 8 => get(numbers, bytes, k, row, time, f, doer),
+        11 => clear(numbers, bytes, k, row, f, doer),
+        _ => status(numbers, bytes, k, row, doer),
     }
-    if code == 7 {
-        return put(numbers, bytes, k, row, event, f, doer);
-    }
-    if code == 3 {
-        return get(numbers, bytes, k, row, time, f, doer);
-    }
-    if code == 8 {
-        return get(numbers, bytes, k, row, time, f, doer);
-    }
-    if code == 11 {
-        return clear(numbers, bytes, k, row, f, doer);
-    }
-    status(numbers, bytes, k, row, doer)
 }

@@ -14,9 +14,7 @@ use Rattle.model.specs.Tables.{Tables, windows, Row, row, room}
 use Rattle.model.specs.Tables.{ports as portCount}
 use Rattle.model.specs.State.{Clock, shortest, portInRange, portsInRange, inRange}
 use Rattle.model.proofs.Ranges.{fits}
-use Rattle.model.proofs.Accepted.{Accepted}
 use Rattle.tables.specs.Shown as Shown
-use Rattle.tables.proofs.Decoded as Decoded
 use Rattle.tables.specs.declared.PortRow.{PortRow}
 use Rattle.tables.specs.declared.Transfer.the-variants.{Sampling, Queuing}
 use Rattle.stores.specs.Ring.{slots, slotOf, messagesFrom, queueOf}
@@ -169,10 +167,6 @@ state-judged t clock modes numbers bytes sixteen wide few =
     (ports-judged t numbers bytes wide few))
 
 -- ---- decoded rows
-
--- the row of port k, where it is read, shows the model's
-pub row-read : (t : Tables) → Accepted t → (k : ℕ) → k < portCount t → {r : PortRow} → r ≡ Shown.decoded (row t k) → Shown.rowOf r ≡ row t k
-row-read t a k h e = ap Shown.rowOf e ∙ Decoded.shown (row t k) (a .rows k h)
 
 -- the room of a row, by its case
 pub room-sampling : (row : PortRow) (p : ℕ) → row .transfer ≡ Sampling p → room (Shown.rowOf row) ≡ 1

@@ -1,12 +1,12 @@
 -- Rows of one size laid one behind the other: one more laid behind the last, and each read back where it stands.
 -- Assumes nothing.
-use Prim.Native.Nat.{ℕ, zero, suc, _+_, _*_, _≤_, _<_}
+use Prim.Native.Nat.{ℕ, zero, suc, _+_, _*_, _<_}
 use mathlib.Core.Path.{_≡_, sym, _∙_, ap, ap₂}
 use mathlib.Core.List.{List, [], _∷_, _++_, map, append-nil, append-assoc}
 use native.Mathlib.Nat.{mul-zero, mul-suc}
 use native.Mathlib.Numerals.{add-one}
 use native.Mathlib.Omega.{arith}
-use lib.ListN.{length, getD, take, drop, length-append, length-drop, List·getD-append}
+use lib.ListN.{length, getD, take, drop, length-append, List·getD-append}
 use lib.Seq.{ext-getD, take-at, drop-append-add, drop-drop, getD-append-add}
 use Rattle.model.specs.Run.{joined}
 use Rattle.model.specs.State.{Port, fresh}
@@ -52,9 +52,6 @@ module _ (f : Port → List ℕ) (size : ℕ) (sized : (q : Port) → length (f 
       ap₂ (λ before after. before ++ (f q ++ after)) (take-at rows behind (size * length ps) long) rest
       ∙ sym (append-assoc rows (f q) (drop (size * length (ps ++ q ∷ [])) old))
       ∙ ap (λ all. all ++ drop (size * length (ps ++ q ∷ [])) old) (sym (rows-last ps q))
-
-  pub laid-length : (ps : List Port) (old : List ℕ) → size * length ps ≤ length old → length (laid f size ps old) ≡ length old
-  laid-length ps old few = simp (length-append, length-drop, rows-length ps) (omega arith)
 
 -- ---- a port's numbers and its block, read back
 

@@ -18,8 +18,10 @@ use Rattle.model.proofs.Tests.{by-test}
 use Rattle.model.specs.Answers.{toldNumber}
 use Rattle.model.proofs.Accepted.{Accepted}
 use Rattle.events.specs.declared.answers.Answer.{Answer}
+use Rattle.events.specs.declared.clock.Clock.{Clock}
 use Rattle.events.specs.Shown.{replied, toldAs}
 use Rattle.services.specs.Did.{shown, Does}
+use Rattle.steps.specs.Stepped.{clockOf, Answers}
 
 -- an event's doer and reply
 pub record At (t : Tables) (s : State) (e : Event) (d : ℕ) (x : Reply) : Type 0 where
@@ -64,13 +66,16 @@ module _ (t : Tables) (s : State) (e : Event) where
         replying = rw (a, eq-eqb (windowPartition t (s .clock .window)) 32 o, lt-ltb c (channels t) h);
       }
 
-  -- an act of that doer is the event's answer, and leaves the state after it
-  pub act-answers : {d : ℕ} {x : Reply} {r : Answer} {s' : State} → At t s e d x → Does s x d r s' → r ≡ replied (doer t s e) (reply t s e)
-  act-answers {d} {x} {r} h a = a .answered ∙ sym (ap₂ replied (h .doing) (h .replying))
-
-  pub act-leaves : {d : ℕ} {x : Reply} {r : Answer} {s' : State} → At t s e d x → Does s x d r s' → s' ≡ after t s e
-  unfolding after
-  act-leaves h a = a .left ∙ sym (ap (stateOf s) (h .replying))
+-- an act of that doer is the event's answer, and leaves the state after it
+pub acts : {t : Tables} {e : Event} {clock clock' : Clock} {modes numbers bytes modes' numbers' bytes' : List ℕ} {d : ℕ} {x : Reply} {r : Answer}
+    → At t (shown t (clockOf clock) modes numbers bytes) e d x → Does (shown t (clockOf clock) modes numbers bytes) x d r (shown t (clockOf clock') modes' numbers' bytes')
+    → Answers t e clock modes numbers bytes r clock' modes' numbers' bytes'
+unfolding after
+acts h a =
+    record {
+      answered = a .answered ∙ sym (ap₂ replied (h .doing) (h .replying));
+      left = a .left ∙ sym (ap (stateOf _) (h .replying));
+    }
 
 -- a call that was decoded has a known code
 abbrev knownAsked : Asked → Bool

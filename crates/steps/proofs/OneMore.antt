@@ -9,19 +9,18 @@ use lib.ListN.{length, take, drop, length-append, length-drop}
 use lib.Seq.{take-at, drop-append-add, drop-drop, length-take-le}
 use Rattle.model.specs.Words.{cut}
 use Rattle.model.specs.Tables.{Tables}
-use Rattle.model.specs.Tables.{ports as portCount}
 use Rattle.model.specs.State.{State}
 use Rattle.model.specs.Events.{Event}
 use Rattle.model.specs.Step.{answer, after}
 use Rattle.model.specs.Run.{answers, afterAll, joined}
 use Rattle.model.proofs.Accepted.{accepted}
 use Rattle.model.proofs.Lists.{after-append, answers-append, joined-append, answer-length}
-use Rattle.model.proofs.Ranges.{Ranged, PortRanged}
+use Rattle.model.proofs.Ranges.{Ranged}
 use Rattle.model.proofs.Reached.{after-ranged}
 use Rattle.events.specs.declared.clock.Clock.{Clock}
 use Rattle.services.specs.declared.Layout.{Layout}
 use Rattle.services.specs.Did.{Held, shown}
-use Rattle.ports.proofs.Ports.{ports-at}
+use Rattle.services.proofs.Holding.{held-of}
 use Rattle.steps.specs.Stepped.{clockOf, Ready, LeavesAt, RunsTo}
 
 -- one record more
@@ -45,18 +44,7 @@ joined-length t s (e ∷ es) =
 -- a state in range is ready, once its arrays are whole
 pub ready-for : {t : Tables} {lay : Layout} {clock : Clock} {modes numbers bytes numbers' bytes' : List ℕ} → Held t lay numbers bytes → length numbers' ≡ length numbers → length bytes' ≡ length bytes
     → Ranged t (shown t (clockOf clock) modes numbers' bytes') → Ready t lay clock modes numbers' bytes'
-ready-for {t} {lay} {clock} {modes} {numbers} {bytes} {numbers'} {bytes'} h n b r =
-    record {
-      held =
-          record {
-            accepted = h .accepted;
-            laid = h .laid;
-            rows = n ∙ h .rows;
-            blocks = b ∙ h .blocks;
-            each = λ k l. subst (PortRanged _) (ports-at numbers' bytes' (portCount t) k l) (r .each k l);
-          };
-      ranged = r;
-    }
+ready-for h n b r = record { held = held-of (h .accepted) (h .laid) (n ∙ h .rows) (b ∙ h .blocks) r; ranged = r }
 
 -- no event yet
 pub none-yet : {t : Tables} {lay : Layout} {clock : Clock} {modes numbers bytes : List ℕ} (events answers : List ℕ) → Ready t lay clock modes numbers bytes

@@ -1,9 +1,7 @@
 // A list of events: one turn after another, each answer laid where it goes.
-ghost use mathlib.Core.Path.{_≡_};
-ghost use mathlib.Core.List.{_++_};
 ghost use Prim.Native.Nat.{_+_, _*_, _≤_};
 ghost use lib.ListN.{length, take, drop};
-ghost use Rattle.model.specs.Step.{answer, after};
+ghost use Rattle.model.specs.Step.{answer};
 ghost use Rattle.steps.specs.Stepped.{Ready, LeavesAt, Runs};
 use super::turns::turn;
 use events::Clock;

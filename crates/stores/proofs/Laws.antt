@@ -1,23 +1,20 @@
--- The laws of a store: what it holds after append and drop, its oldest message, its settled form, and that append and drop keep what test 29 asks.
+-- The laws of a store: what it holds after append and drop, its oldest message, and its settled form.
 -- Assumes nothing.
 use Prim.Native.Nat.{ℕ, zero, suc, _+_, _-_, _*_, _%_, _≤_, _<_}
-use mathlib.Core.Path.{_≡_, refl, sym, ap, ap₂, _∙_, subst}
-use mathlib.Core.Bool.{Bool, true, false}
+use mathlib.Core.Path.{_≡_, refl, sym, ap, ap₂, _∙_}
 use mathlib.Core.List.{List, [], _∷_, _++_, map, append-nil, append-assoc}
 use native.Mathlib.Nat.{zero-add}
 use native.Mathlib.Numerals.{add-one}
 use native.Mathlib.Omega.{arith}
-use lib.Dec.{ltb}
 use lib.ListN.{length, getD, take, set, length-append, length-map, drop}
 use lib.Seq.{length-take-le, take-length, take-suc}
-use borrow.Author.Tests.{ltb-true, ltb-false}
 use Rattle.model.specs.Words.{filled}
 use Rattle.model.specs.State.{Message}
 use Rattle.stores.specs.declared.Letter.{Letter}
 use Rattle.stores.specs.declared.Store.{Store}
-use Rattle.stores.specs.Ring.{slotOf, messageIn, messagesFrom, queueOf, written, letterOf, pasted, appended, dropped, oldestOf, noMessages, allFilled, layOut, Sized, Short}
+use Rattle.stores.specs.Ring.{slotOf, messageIn, messagesFrom, queueOf, written, letterOf, pasted, appended, dropped, oldestOf, noMessages, allFilled, layOut, Short}
 use Rattle.stores.proofs.Lists.{pasted-one, length-filled, take-filled, filled-append}
-use Rattle.stores.proofs.Slots.{placed, messages-length, messages-at, messages-same, messages-last, length-kept, length-stored, message-kept, message-stored}
+use Rattle.stores.proofs.Slots.{placed, messages-length, messages-at, messages-same, messages-last, message-kept, message-stored}
 
 -- ---- the queue
 
@@ -37,14 +34,6 @@ pub queue-none : queueOf noMessages ≡ []
 unfolding queueOf noMessages
 queue-none = refl
 
-pub appended-count : (st : Store) (l : Letter) → appended st l .count ≡ st .count + 1
-unfolding appended
-appended-count st l = refl
-
-pub dropped-count : (st : Store) → dropped st .count ≡ st .count - 1
-unfolding dropped
-dropped-count st = refl
-
 pub queue-dropped : (st : Store) → 0 < st .count → queueOf st ≡ messageIn st (slotOf st 0) ∷ queueOf (dropped st)
 unfolding queueOf dropped
 queue-dropped st some =
@@ -57,9 +46,6 @@ queue-dropped st some =
 
 pub written-letter : (m : Message) → length m ≤ 64 → written (letterOf m) ≡ m
 written-letter m fits = take-filled 64 m fits
-
-pub letter-bytes : (m : Message) → length (letterOf m .bytes) ≡ 64
-letter-bytes m = length-filled 64 m
 
 -- the oldest message is the queue's head
 pub oldest-head : (st : Store) → 0 < st .count → (m : Message) (q : List Message) → queueOf st ≡ m ∷ q → oldestOf st ≡ letterOf m
@@ -74,26 +60,7 @@ module _ (st : Store) (wide : length (st .bytes) ≡ 512) (eight : length (st .l
   pub message-length : (slot : ℕ) → length (messageIn st slot) ≡ getD (st .lengths) slot 0
   message-length slot = length-filled (getD (st .lengths) slot 0) (take 64 (drop (64 * slot) (st .bytes)))
 
-  pub queue-short : Sized st → Short (queueOf st)
-  queue-short sized i h =
-      let stored : i < st .count = omega (arith, queue-length st) in
-      let fits : getD (st .lengths) (slotOf st i) 0 ≤ 64 = sized .short i stored in
-      rw (queue-at st i stored, message-length (slotOf st i)) fits
-
-  -- the queue is the oldest message and the rest
-  pub oldest-size : Sized st → 0 < st .count → oldestOf st .size ≤ 64
-  unfolding oldestOf
-  oldest-size sized some =
-      let fits : getD (st .lengths) (slotOf st 0) 0 ≤ 64 = sized .short 0 some in
-      rw (message-length (slotOf st 0)) fits
-
-  pub queue-oldest : Sized st → 0 < st .count → queueOf st ≡ written (oldestOf st) ∷ queueOf (dropped st)
-  unfolding oldestOf
-  queue-oldest sized some =
-      queue-dropped st some
-      ∙ ap (λ m. m ∷ queueOf (dropped st)) (sym (written-letter (messageIn st (slotOf st 0)) (oldest-size sized some)))
-
-  -- one letter more: the queue grows by its message, and test 29 still lets the store through
+  -- one letter more: the queue grows by its message
   module _ (l : Letter) (whole : length (l .bytes) ≡ 64) (room : st .count < 8) where
     pub queue-appended : l .size ≤ 64 → queueOf (appended st l) ≡ queueOf st ++ written l ∷ []
     unfolding queueOf appended
@@ -107,34 +74,6 @@ module _ (st : Store) (wide : length (st .bytes) ≡ 512) (eight : length (st .l
         ap (λ n. messagesFrom (appended st l) n 0) (add-one (st .count))
         ∙ messages-last (appended st l) (st .count) 0
         ∙ ap₂ (λ q m. q ++ m ∷ []) (messages-same (appended st l) st (st .count) 0 0 kept) stored
-
-    pub sized-appended : l .size ≤ 64 → Sized st → Sized (appended st l)
-    unfolding appended
-    sized-appended fits sized =
-        record { few = omega arith; short = λ i h. go i h (ltb i (st .count)) refl }
-      where
-        go : (i : ℕ) → suc i ≤ st .count + 1 → (b : Bool) → ltb i (st .count) ≡ b
-            → getD (appended st l .lengths) (slotOf st i) 0 ≤ 64
-        go i h true before =
-            let old : i < st .count = ltb-true i (st .count) before in
-            rw (length-kept st wide eight l whole room i old) (sized .short i old)
-        go i h false after =
-            let above : st .count ≤ i = ltb-false i (st .count) after in
-            let last : i ≡ st .count = omega arith in
-            rw (last, length-stored st wide eight l whole room) fits
-
-pub sized-dropped : (st : Store) → 0 < st .count → Sized st → Sized (dropped st)
-unfolding dropped
-sized-dropped st some sized =
-    let next : (i : ℕ) → (st .oldest + suc i) % 8 ≡ ((st .oldest + 1) % 8 + i) % 8 = λ i. omega arith in
-    record {
-      few = omega (arith, sized .few);
-      short = λ i h. subst (λ slot. getD (st .lengths) slot 0 ≤ 64) (next i) (sized .short (suc i) (omega arith));
-    }
-
-pub sized-none : Sized noMessages
-unfolding noMessages
-sized-none = record { few = omega arith; short = λ i h. absurd (omega arith) }
 
 -- ---- settled form
 
@@ -185,53 +124,25 @@ layOut-append q m room =
     let counted : length (q ++ m ∷ []) ≡ length q + 1 = length-append q (m ∷ []) in
     λ i. record { bytes = bytes i; lengths = sizes i; oldest = 0; count = counted i }
 
--- what is laid out is what the store holds, in slots that test 29 lets through
-record Laid (q : List Message) : Type 0 where
-  holds : queueOf (layOut q) ≡ q
-  sized : Sized (layOut q)
-
-laid-none : Laid []
+-- what is laid out is what the store holds
+laid-none : queueOf (layOut []) ≡ []
 unfolding queueOf layOut
-laid-none = record { holds = refl; sized = rw layOut-none sized-none }
+laid-none = refl
 
-laid-more : (q : List Message) (m : Message) → length q < 8 → length m ≤ 64 → Laid q → Laid (q ++ m ∷ [])
-laid-more q m room fits laid =
-    let more : layOut (q ++ m ∷ []) ≡ appended (layOut q) (letterOf m) = layOut-append q m room in
-    let free : layOut q .count < 8 = omega (arith, layOut-count q) in
-    let wide : length (layOut q .bytes) ≡ 512 = layOut-bytes q in
-    let eight : length (layOut q .lengths) ≡ 8 = layOut-lengths q in
-    let whole : length (filled 64 m) ≡ 64 = length-filled 64 m in
-    record {
-      holds =
-          ap queueOf more
-          ∙ queue-appended (layOut q) wide eight (letterOf m) whole free fits
-          ∙ ap₂ (λ held w. held ++ w ∷ []) (laid .holds) (written-letter m fits);
-      sized = rw more (sized-appended (layOut q) wide eight (letterOf m) whole free fits (laid .sized));
-    }
+laid-more : (q : List Message) (m : Message) → length q < 8 → length m ≤ 64 → queueOf (layOut q) ≡ q → queueOf (layOut (q ++ m ∷ [])) ≡ q ++ m ∷ []
+laid-more q m room fits held =
+    ap queueOf (layOut-append q m room)
+    ∙ queue-appended (layOut q) (layOut-bytes q) (layOut-lengths q) (letterOf m) (length-filled 64 m) (omega (arith, layOut-count q)) fits
+    ∙ ap₂ (λ q m. q ++ m ∷ []) held (written-letter m fits)
 
-laid-prefix : (q : List Message) → length q ≤ 8 → Short q → (k : ℕ) → k ≤ length q → Laid (take k q)
+laid-prefix : (q : List Message) → length q ≤ 8 → Short q → (k : ℕ) → k ≤ length q → queueOf (layOut (take k q)) ≡ take k q
 laid-prefix q few short zero h = laid-none
 laid-prefix q few short (suc k) h =
     let counted : length (take k q) ≡ k = length-take-le k q (omega arith) in
     rw (take-suc q k []) (laid-more (take k q) (getD q k []) (omega arith) (short k (omega arith)) (laid-prefix q few short k (omega arith)))
 
-module _ (q : List Message) (few : length q ≤ 8) (short : Short q) where
-  laid : Laid q
-  laid = rw (take-length q) at (laid-prefix q few short (length q) (omega arith))
-
-  pub queue-layOut : queueOf (layOut q) ≡ q
-  queue-layOut = laid .holds
-
-  pub sized-layOut : Sized (layOut q)
-  sized-layOut = laid .sized
-
--- a settled store holds what the store held
-module _ (st : Store) (wide : length (st .bytes) ≡ 512) (eight : length (st .lengths) ≡ 8) (sized : Sized st) where
-  pub queue-settled : queueOf (layOut (queueOf st)) ≡ queueOf st
-  queue-settled = queue-layOut (queueOf st) (omega (arith, queue-length st, sized .few)) (queue-short st wide eight sized)
-
-  pub sized-settled : Sized (layOut (queueOf st))
-  sized-settled = sized-layOut (queueOf st) (omega (arith, queue-length st, sized .few)) (queue-short st wide eight sized)
+pub queue-layOut : (q : List Message) → length q ≤ 8 → Short q → queueOf (layOut q) ≡ q
+queue-layOut q few short = rw (take-length q) at (laid-prefix q few short (length q) (omega arith))
 
 -- the first messages of a store laid out, and one message more
 pub layOut-next : (st : Store) (i : ℕ) → i < st .count → i < 8

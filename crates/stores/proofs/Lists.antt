@@ -7,7 +7,7 @@ use native.Mathlib.Nat.{zero-add}
 use native.Mathlib.Numerals.{add-one}
 use native.Mathlib.Omega.{arith}
 use lib.ListN.{length, getD, take, drop, set, length-append, length-drop, length-replicate, take-append-drop, replicate-append-replicate}
-use lib.Seq.{paste, paste-suc, take-all, take-length, take-take, take-append-le, take-append-seam, drop-append-le, drop-append-add, drop-drop, take-append-add, take-at, drop-at, set-split, length-take-le}
+use lib.Seq.{paste, paste-suc, take-length, take-take, take-append-le, take-append-seam, drop-append-le, drop-append-add, drop-drop, take-append-add, take-at, drop-at, set-split, length-take-le}
 use Rattle.model.specs.Words.{filled, zeros}
 use Rattle.stores.specs.Ring.{pasted}
 
@@ -28,9 +28,6 @@ module _ (l : List ℕ) (at : ℕ) (part : List ℕ) (within : at + length part 
 
   front-length : length (take at l ++ part) ≡ at + length part
   front-length = simp (length-append, head-length)
-
-  pub length-pasted : length (pasted l at part) ≡ length l
-  length-pasted = simp (length-append, length-drop, head-length) (omega arith)
 
   pub read-part : (n : ℕ) → n ≤ length part → take n (drop at (pasted l at part)) ≡ take n part
   read-part n fits =
@@ -92,9 +89,6 @@ filled-split n l fits =
     ap (λ k. take k (l ++ zeros n)) whole
     ∙ take-append-add l (zeros n) (n - length l)
     ∙ ap (λ rest. l ++ rest) (take-zeros (n - length l) n (omega arith))
-
-pub filled-none : (n : ℕ) → filled n [] ≡ zeros n
-filled-none n = take-all n (zeros n) (omega (arith, length-zeros n))
 
 -- the first elements of a list written over zeros
 pub filled-pasted : (n : ℕ) (l : List ℕ) (k : ℕ) → k ≤ n → k ≤ length l → paste (zeros n) 0 l k ≡ filled n (take k l)

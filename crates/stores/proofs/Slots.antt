@@ -8,7 +8,7 @@ use mathlib.Core.List.{[], _∷_, _++_}
 use native.Mathlib.Nat.{add-zero}
 use native.Mathlib.Omega.{arith}
 use lib.Dec.{ltb}
-use lib.ListN.{length, getD, take, drop, length-set, length-drop}
+use lib.ListN.{length, getD, take, drop, length-drop}
 use lib.Seq.{getD-set-same, getD-set-other, length-take-le, take-append-le, take-take, take-all}
 use borrow.Author.Tests.{ltb-true, ltb-false}
 use Rattle.model.specs.Words.{filled, zeros}
@@ -16,7 +16,7 @@ use Rattle.model.specs.State.{Message}
 use Rattle.stores.specs.declared.Letter.{Letter}
 use Rattle.stores.specs.declared.Store.{Store}
 use Rattle.stores.specs.Ring.{slotOf, messageIn, messagesFrom, written, pasted, appended}
-use Rattle.stores.proofs.Lists.{length-pasted, read-part, read-before, read-after}
+use Rattle.stores.proofs.Lists.{read-part, read-before, read-after}
 
 -- ---- the messages of n slots, from the i-th place on
 
@@ -71,14 +71,6 @@ free st = slotOf st (st .count)
 module _ (st : Store) (wide : length (st .bytes) ≡ 512) (eight : length (st .lengths) ≡ 8) (l : Letter) (whole : length (l .bytes) ≡ 64) (room : st .count < 8) where
   part-within : 64 * free st + length (l .bytes) ≤ length (st .bytes)
   part-within = omega arith
-
-  pub appended-bytes : length (appended st l .bytes) ≡ 512
-  unfolding appended
-  appended-bytes = length-pasted (st .bytes) (64 * free st) (l .bytes) part-within ∙ wide
-
-  pub appended-lengths : length (appended st l .lengths) ≡ 8
-  unfolding appended
-  appended-lengths = simp length-set eight
 
   another-slot : (i : ℕ) → i < st .count → slotOf st i ≢ free st
   another-slot i h = omega arith

@@ -6,17 +6,13 @@ use native.Mathlib.Omega.{arith}
 use lib.ListN.{length}
 use borrow.Author.Needs.{needs}
 use borrow.Author.Tests.{eq-eqb, ne-eqb}
-use Rattle.model.specs.Run.{answers, listFault}
+use Rattle.model.specs.Run.{listFault}
 use Rattle.kernel.specs.Meets.{isSound, ListMeets}
 use Rattle.kernel.proofs.Laws
 use borrow.Author.Needs.{needs}
 use Rattle.kernel.proofs.run.Statement.{statement}
 use Rattle.kernel.proofs.run.Tie as tie
-use Rattle.kernel.proofs.run.Reads as reads
-use Rattle.kernel.proofs.run.Lts as lts
-use Rattle.kernel.proofs.lists.carry_out.Reads as carry-out-reads
 
--- src/lib.rt:54:9
 returns : tie.Need-returns
 returns c =
     let s = c .before .before .before .before in
@@ -27,15 +23,12 @@ returns c =
     subst (λ w. ListMeets (listFault w es b (isSound t st)) t st es b (record { refusal = 27; state = st }) b) (sym (ne-eqb (length es % 80) 0 (c .if1 .taken)))
     (Laws.refuses (listFault false es b (isSound t st)) 27 t st es b (Laws.fault-27 es b (isSound t st)) (λ z. omega arith))
 
--- src/lib.rt:56:5
 carry-out-requires : tie.Need-carry-out-requires
 carry-out-requires c κs = search needs
 
--- src/lib.rt:50:1
 same-length : tie.Need-same-length
 same-length c = search needs
 
--- src/lib.rt:50:1
 returns-2 : tie.Need-returns-2
 returns-2 c =
     let s = c .before .before .before .before .before .before .before .before in

@@ -7,7 +7,8 @@ use Rattle.tables.specs.Shown.{rowOf}
 use Rattle.stores.specs.Ring.{written}
 use Rattle.ports.specs.Held.{portAt}
 use Rattle.ports.proofs.Ports.{put-is, put-kept}
-use Rattle.moves.proofs.Laws.{created-is, mode-bit, arrived-uncreated, arrived-queuing, arrived-sampling, put-stamped}
+use Rattle.services.proofs.Holding.{created-is}
+use Rattle.moves.proofs.Laws.{mode-bit, arrived-uncreated, arrived-queuing, arrived-sampling, put-stamped}
 use borrow.Author.Needs.{needs}
 use Rattle.moves.proofs.arrive.Statement.{statement}
 use Rattle.moves.proofs.arrive.Tie as tie

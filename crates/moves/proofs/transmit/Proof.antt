@@ -1,9 +1,6 @@
 -- `moves::transmit` meets its contract: an empty source is refused, and else the oldest message is taken and delivered. Assumes nothing.
-use mathlib.Core.Path.{_≡_}
 use native.Mathlib.Omega.{arith}
-use lib.ListN.{getD}
-use Rattle.ports.specs.Held.{rowOf}
-use Rattle.moves.proofs.Channels.{few-records, first-channel, its-record, few-channels, source-lent, source-sized, source-held, source-carried, moved, unmoved}
+use Rattle.moves.proofs.Channels.{few-records, first-channel, its-record, few-channels, source-lent, source-sized, source-some, source-held, source-carried, moved, unmoved}
 use borrow.Author.Needs.{needs}
 use Rattle.moves.proofs.transmit.Statement.{statement}
 use Rattle.moves.proofs.transmit.Tie as tie
@@ -42,22 +39,25 @@ same-length c = search needs
 
 returns : tie.Need-returns
 returns c =
-    let a = c .before .before .before .before .before .before .before .before .before .args in
-    let none : getD (rowOf (a .numbers .now) (c .before .before .before .before .source-port .result)) 4 0 ≡ 0 = omega (arith, c .before .before .waiting .ensures, c .before .if1 .taken) in
-    unmoved (c .before .before .before .before .before .before .before .before .before .pre .0) (a .c) (c .before .before .before .before .before .before .before .before .before .pre .1) (c .before .before .before .before .source-port .ensures) (a .time) none (c .refusal .ensures)
+    let s = c .before .before .before .before .before .before .before .before .before in
+    unmoved (s .pre .0) (s .args .c) (s .pre .1) (c .before .before .before .before .source-port .ensures) (c .before .before .waiting .ensures) (s .args .time) (c .before .if1 .taken) (c .refusal .ensures)
 
 take-oldest-requires : tie.Need-take-oldest-requires
 take-oldest-requires c κs =
-    let a = c .before .before .before .before .before .before .before .before .before .before .args in
+    let s = c .before .before .before .before .before .before .before .before .before .before in
     let found = c .before .before .before .before .before .source-port .ensures in
-    (source-lent (c .before .before .before .before .before .before .before .before .before .before .pre .0) (a .c) (c .before .before .before .before .before .before .before .before .before .before .pre .1) found, (source-sized (c .before .before .before .before .before .before .before .before .before .before .pre .0) (a .c) (c .before .before .before .before .before .before .before .before .before .before .pre .1) found, omega (arith, c .before .before .before .waiting .ensures, c .before .before .if1 .left)))
+    let counted = c .before .before .before .waiting .ensures in
+    let some = c .before .before .if1 .left in
+    ((source-lent (s .pre .0) (s .args .c) (s .pre .1) found, source-sized (s .pre .0) (s .args .c) (s .pre .1) found), source-some (s .pre .0) (s .args .c) (s .pre .1) found counted some)
 
 deliver-requires : tie.Need-deliver-requires
 deliver-requires c κs =
-    let a = c .before .before .before .before .before .before .before .before .before .before .before .before .before .before .before .args in
+    let s = c .before .before .before .before .before .before .before .before .before .before .before .before .before .before .before in
     let found = c .before .before .before .before .before .before .before .before .before .before .source-port .ensures in
+    let counted = c .before .before .before .before .before .before .before .before .waiting .ensures in
+    let some = c .before .before .before .before .before .before .before .if1 .left in
     let gone = c .before .before .before .before .take-oldest .ensures in
-    (source-held (c .before .before .before .before .before .before .before .before .before .before .before .before .before .before .before .pre .0) (a .c) (c .before .before .before .before .before .before .before .before .before .before .before .before .before .before .before .pre .1) found gone (c .before .before .before .before .take-oldest .kept .0), (c .before .before .before .before .before .before .before .before .before .before .before .before .before .before .before .pre .1, source-carried (c .before .before .before .before .before .before .before .before .before .before .before .before .before .before .before .pre .0) (a .c) (c .before .before .before .before .before .before .before .before .before .before .before .before .before .before .before .pre .1) found gone))
+    (source-held (s .pre .0) (s .args .c) (s .pre .1) found counted some gone (c .before .before .before .before .take-oldest .kept .0), (s .pre .1, source-carried (s .pre .0) (s .args .c) (s .pre .1) found counted some gone))
 
 done-requires : tie.Need-done-requires
 done-requires c κs = search needs
@@ -70,9 +70,11 @@ same-length-3 c = search needs
 
 returns-2 : tie.Need-returns-2
 returns-2 c =
-    let a = c .before .before .before .before .before .before .before .before .before .before .before .before .before .before .before .before .before .before .before .before .before .args in
+    let s = c .before .before .before .before .before .before .before .before .before .before .before .before .before .before .before .before .before .before .before .before .before in
     let last = c .before .before .before .before .before .deliver .last in
-    moved (c .before .before .before .before .before .before .before .before .before .before .before .before .before .before .before .before .before .before .before .before .before .pre .0) (a .c) (c .before .before .before .before .before .before .before .before .before .before .before .before .before .before .before .before .before .before .before .before .before .pre .1) (c .before .before .before .before .before .before .before .before .before .before .before .before .before .before .before .before .source-port .ensures) (c .before .before .before .before .before .before .before .before .before .before .take-oldest .ensures) (a .time) (last .1 .1 .0) (last .1 .1 .1 .0) (c .before .before .before .before .before .deliver .ensures) (c .done .ensures)
+    let counted = c .before .before .before .before .before .before .before .before .before .before .before .before .before .before .waiting .ensures in
+    let some = c .before .before .before .before .before .before .before .before .before .before .before .before .before .if1 .left in
+    moved (s .pre .0) (s .args .c) (s .pre .1) (c .before .before .before .before .before .before .before .before .before .before .before .before .before .before .before .before .source-port .ensures) counted some (c .before .before .before .before .before .before .before .before .before .before .take-oldest .ensures) (s .args .time) (last .1 .1 .0) (last .1 .1 .1 .0) (c .before .before .before .before .before .deliver .ensures) (c .done .ensures)
 
 pub transmit-spec : {M : Type 1} → statement M
 transmit-spec =

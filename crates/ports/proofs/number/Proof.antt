@@ -4,26 +4,19 @@ use borrow.Author.Needs.{needs}
 use Rattle.ports.proofs.Rows.{row-at}
 use Rattle.ports.proofs.number.Statement.{statement}
 use Rattle.ports.proofs.number.Tie as tie
-use Rattle.ports.proofs.number.Reads as reads
-use Rattle.ports.proofs.number.Lts as lts
 
--- src/lib.rt:24:13
 mul-result : tie.Need-mul-result
 mul-result c = search needs
 
--- src/lib.rt:24:13
 add-result : tie.Need-add-result
 add-result c = search needs
 
--- src/lib.rt:24:5
 mul-result-2 : tie.Need-mul-result-2
 mul-result-2 c = search needs
 
--- src/lib.rt:24:5
 shared-slice-read-result : tie.Need-shared-slice-read-result
 shared-slice-read-result c = search needs
 
--- src/lib.rt:20:1
 returns : tie.Need-returns
 returns c = sym (row-at (c .before .args .numbers .now) (c .before .args .k) (c .before .args .j) (search needs))
 

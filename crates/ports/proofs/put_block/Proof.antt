@@ -5,12 +5,11 @@ use native.Mathlib.Omega.{arith}
 use lib.ListN.{length, length-set}
 use lib.Seq.{paste, paste-zero}
 use borrow.Author.Needs.{needs}
-use Rattle.ports.proofs.Rows.{paste-next, block-put}
+use Rattle.stores.proofs.Lists.{paste-turn}
+use Rattle.ports.proofs.Rows.{block-put}
 use Rattle.ports.specs.Held.{BlockPut}
 use Rattle.ports.proofs.put_block.Statement.{statement}
 use Rattle.ports.proofs.put_block.Tie as tie
-use Rattle.ports.proofs.put_block.Reads as reads
-use Rattle.ports.proofs.put_block.Lts as lts
 
 abbrev Inv-loop : tie.InvT-loop
 Inv-loop bytes₀ k block at i₀ bytes i = (i ≤ 512) × (length bytes ≡ length bytes₀) × (length block ≡ 512) × (bytes ≡ paste bytes₀ (512 * k) block i)
@@ -18,35 +17,27 @@ Inv-loop bytes₀ k block at i₀ bytes i = (i ≤ 512) × (length bytes ≡ len
 abbrev μ-loop : tie.MeasureT-loop
 μ-loop bytes₀ k block at i₀ bytes i = 512 - i
 
--- src/lib.rt:54:14
 mul-at : tie.Need-mul-at Inv-loop μ-loop
 mul-at c = search needs
 
--- src/lib.rt:56:5
 loop-holds : tie.Need-loop-holds Inv-loop μ-loop
 loop-holds c = (omega arith, refl, search needs, paste-zero (c .args .bytes .now) (512 * c .args .k) (c .args .t3))
 
--- src/lib.rt:57:25
 array-read-bytes : tie.Need-array-read-bytes Inv-loop μ-loop
 array-read-bytes c = search needs
 
--- src/lib.rt:57:15
 add-bytes : tie.Need-add-bytes Inv-loop μ-loop
 add-bytes c = search needs
 
--- src/lib.rt:57:9
 slice-write-bytes : tie.Need-slice-write-bytes Inv-loop μ-loop
 slice-write-bytes c = search needs
 
--- src/lib.rt:58:13
 add-i : tie.Need-add-i Inv-loop μ-loop
 add-i c = search needs
 
--- src/lib.rt:56:5
 loop-less : tie.Need-loop-less Inv-loop μ-loop
 loop-less c = search needs
 
--- src/lib.rt:56:5
 loop-again : tie.Need-loop-again Inv-loop μ-loop
 loop-again c =
     let l = c .before .loop in
@@ -55,13 +46,11 @@ loop-again c =
     let block = c .before .before .args .t3 in
     let whole : length b ≡ 32768 = c .before .before .pre .0 in
     let few : k < 64 = c .before .before .pre .1 in
-    (omega arith, simp length-set (l .inv .1), l .inv .2, rw (l .inv .3) (paste-next b block (512 * k) (l .i) (omega arith) (omega (arith, l .inv .2))))
+    (omega arith, simp length-set (l .inv .1), l .inv .2, paste-turn b (512 * k) block (l .i) (l .inv .3) refl refl (omega arith) (omega (arith, l .inv .2)))
 
--- src/lib.rt:50:1
 same-length : tie.Need-same-length Inv-loop μ-loop
 same-length c = search needs
 
--- src/lib.rt:50:1
 returns : tie.Need-returns Inv-loop μ-loop
 returns c =
     let l = c .before .loop in

@@ -3,30 +3,22 @@ use borrow.Author.Needs.{needs}
 use Rattle.ports.proofs.Rows.{row-put}
 use Rattle.ports.proofs.set_number.Statement.{statement}
 use Rattle.ports.proofs.set_number.Tie as tie
-use Rattle.ports.proofs.set_number.Reads as reads
-use Rattle.ports.proofs.set_number.Lts as lts
 
--- src/lib.rt:31:13
 mul-numbers : tie.Need-mul-numbers
 mul-numbers c = search needs
 
--- src/lib.rt:31:13
 add-numbers : tie.Need-add-numbers
 add-numbers c = search needs
 
--- src/lib.rt:31:5
 mul-numbers-2 : tie.Need-mul-numbers-2
 mul-numbers-2 c = search needs
 
--- src/lib.rt:31:5
 slice-write-numbers : tie.Need-slice-write-numbers
 slice-write-numbers c = search needs
 
--- src/lib.rt:27:1
 same-length : tie.Need-same-length
 same-length c = search needs
 
--- src/lib.rt:27:1
 returns : tie.Need-returns
 returns c = row-put (c .args .numbers .now) (c .args .k) (c .args .j) (c .args .v) (c .pre .0) (search needs) (search needs)
 

@@ -9,8 +9,6 @@ use Rattle.ports.proofs.Rows.{fill-next}
 use borrow.Author.Needs.{needs}
 use Rattle.ports.proofs.take_block.Statement.{statement}
 use Rattle.ports.proofs.take_block.Tie as tie
-use Rattle.ports.proofs.take_block.Reads as reads
-use Rattle.ports.proofs.take_block.Lts as lts
 
 abbrev Inv-loop : tie.InvT-loop
 Inv-loop bytes k at block₀ i₀ block i = (i ≤ 512) × (length block ≡ 512) × (take i block ≡ take i (drop (512 * k) bytes))
@@ -18,35 +16,27 @@ Inv-loop bytes k at block₀ i₀ block i = (i ≤ 512) × (length block ≡ 512
 abbrev μ-loop : tie.MeasureT-loop
 μ-loop bytes k at block₀ i₀ block i = 512 - i
 
--- src/lib.rt:40:14
 mul-at : tie.Need-mul-at Inv-loop μ-loop
 mul-at c = search needs
 
--- src/lib.rt:43:5
 loop-holds : tie.Need-loop-holds Inv-loop μ-loop
 loop-holds c = (omega arith, refl, refl)
 
--- src/lib.rt:44:26
 add-block : tie.Need-add-block Inv-loop μ-loop
 add-block c = search needs
 
--- src/lib.rt:44:20
 shared-slice-read-block : tie.Need-shared-slice-read-block Inv-loop μ-loop
 shared-slice-read-block c = search needs
 
--- src/lib.rt:44:9
 array-write-block : tie.Need-array-write-block Inv-loop μ-loop
 array-write-block c = search needs
 
--- src/lib.rt:45:13
 add-i : tie.Need-add-i Inv-loop μ-loop
 add-i c = search needs
 
--- src/lib.rt:43:5
 loop-less : tie.Need-loop-less Inv-loop μ-loop
 loop-less c = search needs
 
--- src/lib.rt:43:5
 loop-again : tie.Need-loop-again Inv-loop μ-loop
 loop-again c =
     let l = c .before .before .loop in
@@ -56,7 +46,6 @@ loop-again c =
     let long : l .i < length (drop (512 * k) b) = simp length-drop (omega arith) in
     (omega arith, simp length-set (l .inv .1), rw (getD-drop (512 * k) b (l .i) 0) at (fill-next (l .block) (drop (512 * k) b) (l .i) (omega (arith, l .inv .1)) long (l .inv .2)))
 
--- src/lib.rt:36:1
 returns : tie.Need-returns Inv-loop μ-loop
 unfolding blockOf
 returns c =

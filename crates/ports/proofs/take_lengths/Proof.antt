@@ -9,9 +9,6 @@ use Rattle.ports.specs.Held.{rowOf}
 use Rattle.ports.proofs.Rows.{fill-next}
 use Rattle.ports.proofs.take_lengths.Statement.{statement}
 use Rattle.ports.proofs.take_lengths.Tie as tie
-use Rattle.ports.proofs.take_lengths.Reads as reads
-use Rattle.ports.proofs.take_lengths.Lts as lts
-use Rattle.ports.proofs.number.Reads as number-reads
 
 abbrev Inv-loop : tie.InvT-loop
 Inv-loop numbers k lengths₀ i₀ lengths i = (i ≤ 8) × (length lengths ≡ 8) × (take i lengths ≡ take i (drop 5 (rowOf numbers k)))
@@ -19,35 +16,27 @@ Inv-loop numbers k lengths₀ i₀ lengths i = (i ≤ 8) × (length lengths ≡ 
 abbrev μ-loop : tie.MeasureT-loop
 μ-loop numbers k lengths₀ i₀ lengths i = 8 - i
 
--- src/lib.rt:69:5
 loop-holds : tie.Need-loop-holds Inv-loop μ-loop
 loop-holds c = (omega arith, refl, refl)
 
--- src/lib.rt:70:41
 add-number : tie.Need-add-number Inv-loop μ-loop
 add-number c = search needs
 
--- src/lib.rt:70:22
 number-requires : tie.Need-number-requires Inv-loop μ-loop
 number-requires c κs = search needs
 
--- src/lib.rt:70:9
 mul-lengths : tie.Need-mul-lengths Inv-loop μ-loop
 mul-lengths c = search needs
 
--- src/lib.rt:70:9
 array-write-lengths : tie.Need-array-write-lengths Inv-loop μ-loop
 array-write-lengths c = search needs
 
--- src/lib.rt:71:13
 add-i : tie.Need-add-i Inv-loop μ-loop
 add-i c = search needs
 
--- src/lib.rt:69:5
 loop-less : tie.Need-loop-less Inv-loop μ-loop
 loop-less c = search needs
 
--- src/lib.rt:69:5
 loop-again : tie.Need-loop-again Inv-loop μ-loop
 unfolding rowOf
 loop-again c =
@@ -57,7 +46,6 @@ loop-again c =
     let long : l .i < length (drop 5 (rowOf n k)) = simp length-drop (omega arith) in
     (omega arith, simp length-set (l .inv .1), rw (c .number .ensures, ← (getD-drop 5 (rowOf n k) (l .i) 0)) (fill-next (l .lengths) (drop 5 (rowOf n k)) (l .i) (omega (arith, l .inv .1)) long (l .inv .2)))
 
--- src/lib.rt:63:1
 returns : tie.Need-returns Inv-loop μ-loop
 unfolding rowOf
 returns c =

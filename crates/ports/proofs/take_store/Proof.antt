@@ -3,29 +3,19 @@ use Rattle.ports.specs.Held.{storeAt}
 use borrow.Author.Needs.{needs}
 use Rattle.ports.proofs.take_store.Statement.{statement}
 use Rattle.ports.proofs.take_store.Tie as tie
-use Rattle.ports.proofs.take_store.Reads as reads
-use Rattle.ports.proofs.take_store.Lts as lts
-use Rattle.ports.proofs.number.Reads as number-reads
-use Rattle.ports.proofs.take_block.Reads as take-block-reads
-use Rattle.ports.proofs.take_lengths.Reads as take-lengths-reads
 
--- src/lib.rt:92:9
 take-block-requires : tie.Need-take-block-requires
 take-block-requires c κs = search needs
 
--- src/lib.rt:93:9
 take-lengths-requires : tie.Need-take-lengths-requires
 take-lengths-requires c κs = search needs
 
--- src/lib.rt:97:17
 number-requires : tie.Need-number-requires
 number-requires c κs = search needs
 
--- src/lib.rt:98:16
 number-requires-2 : tie.Need-number-requires-2
 number-requires-2 c κs = search needs
 
--- src/lib.rt:88:1
 returns : tie.Need-returns
 unfolding storeAt
 returns c =

@@ -1,127 +1,73 @@
 -- `calls::creating::create` meets its contract: the port that the look-up finds, made. Assumes nothing.
-use Prim.Native.Nat.{suc, _+_, _-_, _<_}
+use Prim.Native.Nat.{suc, _+_, _<_}
 use mathlib.Core.Path.{_≡_, sym, _∙_, ap, ap₂, subst}
 use native.Mathlib.Omega.{arith}
 use lib.ListN.{getD}
 use Rattle.model.specs.Tables.{row}
 use Rattle.model.specs.Tables.{ports as portCount}
-use Rattle.model.specs.Events.{need}
 use Rattle.model.proofs.Accepted.{accepted}
 use Rattle.tables.specs.Shown as Shown
 use Rattle.events.specs.Shown.{callOf}
-use Rattle.ports.specs.Held.{rowOf, portAt}
-use Rattle.services.specs.Did.{Does, shown}
+use Rattle.ports.specs.Held.{portAt}
+use Rattle.services.specs.Did.{shown}
 use Rattle.services.specs.Served.{Serves}
-use Rattle.calls.proofs.Laws
+use Rattle.services.proofs.Holding.{row-read, shown-port}
+use Rattle.calls.proofs.Laws.{rows-of, refused-does, serves-does, create-none, create-found}
 use native.Mathlib.Numerals.{add-one}
 use Rattle.model.specs.Tables.{rowAt}
 use Rattle.model.specs.State.{port, modeOf}
-use Rattle.model.specs.Services.{lookUp, made}
+use Rattle.model.specs.Services.{made}
 use borrow.Author.Needs.{needs}
 use Rattle.calls.proofs.creating.create.Statement.{statement}
 use Rattle.calls.proofs.creating.create.Tie as tie
-use Rattle.calls.proofs.creating.create.Reads as reads
-use Rattle.calls.proofs.creating.create.Lts as lts
-use Rattle.calls.proofs.creating.make.Reads as make-reads
-use Rattle.calls.proofs.names.look_up.Reads as look-up-reads
-use Rattle.events.proofs.refusal.Reads as refusal-reads
-use Rattle.events.proofs.need.Reads as need-reads
-use Rattle.tables.proofs.port_row.Reads as port-row-reads
 
--- src/creating.rt:88:9
 need-requires : tie.Need-need-requires
 need-requires c κs = search needs
 
--- src/creating.rt:89:9
 look-up-requires : tie.Need-look-up-requires
 look-up-requires c κs =
     let s = c .before .before .before .before .before .before in
-    let t = s .args .t .now in
-    let n = s .args .numbers .now in
-    let b = s .args .bytes .now in
-    let p = s .args .p in
-    let e = s .args .event .now in
-    let f = callOf (s .args .f) in
     let h = s .pre .0 in
-    (Laws.rows-of h, s .pre .1 .0 .whole)
+    (rows-of h, s .pre .1 .0 .whole)
 
--- src/creating.rt:91:9
 refusal-requires : tie.Need-refusal-requires
 refusal-requires c κs = search needs
 
--- src/creating.rt:91:9
 returns : tie.Need-returns
 returns c =
     let s = c .before .before .before .before .before .before .before .before .before .before in
-    let t = s .args .t .now in
-    let n = s .args .numbers .now in
-    let b = s .args .bytes .now in
-    let p = s .args .p in
-    let e = s .args .event .now in
-    let f = callOf (s .args .f) in
-    let h = s .pre .0 in
-    let k = c .before .before .before .look-up .result in
-    let found = c .before .before .before .look-up .ensures ∙ ap (λ x. lookUp t p (x .mode) e) (c .before .before .before .before .need .ensures) in
-    λ clock. Laws.refused-does (shown t clock (s .args .modes .now) n b) p 4 (c .refusal .result)
-    (Laws.create-none t (shown t clock (s .args .modes .now) n b) p e f k found (omega (arith, h .laid .ported, c .before .if1 .taken))) (c .refusal .ensures)
+    λ clock. rw (create-none (s .pre .0) clock (s .args .modes .now) (s .args .p) (s .args .event .now) (callOf (s .args .f)) (c .before .before .before .before .need .ensures) (c .before .before .before .look-up .ensures) (c .before .if1 .taken)) (refused-does (c .refusal .ensures))
 
--- src/creating.rt:93:35
 add-port-row : tie.Need-add-port-row
 add-port-row c =
     let s = c .before .before .before .before .before .before .before .before .before .before in
     let t = s .args .t .now in
-    let n = s .args .numbers .now in
-    let b = s .args .bytes .now in
-    let p = s .args .p in
-    let e = s .args .event .now in
-    let f = callOf (s .args .f) in
     let h = s .pre .0 in
-    let k = c .before .before .before .look-up .result in
-    let found = c .before .before .before .look-up .ensures ∙ ap (λ x. lookUp t p (x .mode) e) (c .before .before .before .before .need .ensures) in
     let a = accepted t (h .accepted) in
     record { fits = omega (arith, c .before .if1 .left, h .laid .ported, h .laid .windowed, a .fewWindows, a .fewPorts) }
 
--- src/creating.rt:93:9
 port-row-requires : tie.Need-port-row-requires
 port-row-requires c κs =
     let s = c .before .before .before .before .before .before .before .before .before .before in
     let t = s .args .t .now in
-    let n = s .args .numbers .now in
-    let b = s .args .bytes .now in
-    let p = s .args .p in
-    let e = s .args .event .now in
-    let f = callOf (s .args .f) in
     let h = s .pre .0 in
-    let k = c .before .before .before .look-up .result in
-    let found = c .before .before .before .look-up .ensures ∙ ap (λ x. lookUp t p (x .mode) e) (c .before .before .before .before .need .ensures) in
     let a = accepted t (h .accepted) in
     omega (arith, c .before .if1 .left, h .laid .ported, h .laid .windowed, a .portsAfter, a .channelsAfter)
 
--- src/creating.rt:94:34
 shared-slice-read-make : tie.Need-shared-slice-read-make
 shared-slice-read-make c = search needs
 
--- src/creating.rt:94:5
 make-requires : tie.Need-make-requires
 make-requires c κs =
     let s = c .before .before .before .before .before .before .before .before .before .before .before .before .before in
     let t = s .args .t .now in
-    let n = s .args .numbers .now in
-    let b = s .args .bytes .now in
-    let p = s .args .p in
-    let e = s .args .event .now in
-    let f = callOf (s .args .f) in
     let h = s .pre .0 in
-    let k = c .before .before .before .before .before .before .look-up .result in
-    let found = c .before .before .before .before .before .before .look-up .ensures ∙ ap (λ x. lookUp t p (x .mode) e) (c .before .before .before .before .before .before .before .need .ensures) in
     let a = accepted t (h .accepted) in
     record { rows = h .rows; blocks = h .blocks; there = omega (arith, c .before .before .before .before .if1 .left, h .laid .ported, a .fewPorts) }
 
--- src/creating.rt:73:1
 same-length : tie.Need-same-length
 same-length c = search needs
 
--- src/creating.rt:73:1
 returns-2 : tie.Need-returns-2
 returns-2 c =
     let s = c .before .before .before .before .before .before .before .before .before .before .before .before .before .before .before .before in
@@ -129,25 +75,23 @@ returns-2 c =
     let n = s .args .numbers .now in
     let b = s .args .bytes .now in
     let p = s .args .p in
-    let e = s .args .event .now in
     let f = callOf (s .args .f) in
     let h = s .pre .0 in
     let k = c .before .before .before .before .before .before .before .before .before .look-up .result in
-    let found = c .before .before .before .before .before .before .before .before .before .look-up .ensures ∙ ap (λ x. lookUp t p (x .mode) e) (c .before .before .before .before .before .before .before .before .before .before .need .ensures) in
-    let a = accepted t (h .accepted) in
-    let there : k < portCount t = omega (arith, c .before .before .before .before .before .before .before .if1 .left, h .laid .ported) in
-    let shows = ap Shown.rowOf (c .before .before .before .before .before .port-row .ensures ∙ ap (λ w. Shown.decoded (rowAt t (w + k))) (h .laid .windowed)) ∙ Laws.row-shown t a k there in
+    let inside = c .before .before .before .before .before .before .before .if1 .left in
+    let there : k < portCount t = omega (arith, inside, h .laid .ported) in
+    let shows = row-read t (accepted t (h .accepted)) k there (c .before .before .before .before .before .port-row .ensures ∙ ap (λ w. Shown.decoded (rowAt t (w + k))) (h .laid .windowed)) in
     let modes = s .args .modes .now in
-    let after = c .before .before .make .last .0 in
+    let made-at = c .before .before .make in
     λ clock.
     let st = shown t clock modes n b in
     let served = made (suc k) (modeOf st p) (row t k) f (port st k) in
     let same : made (k + 1) (getD modes p 0) (Shown.rowOf (c .before .before .before .before .before .port-row .result)) f (portAt n b k) ≡ served =
     ap (λ i. made i (getD modes p 0) (Shown.rowOf (c .before .before .before .before .before .port-row .result)) f (portAt n b k)) (add-one k)
-    ∙ ap₂ (λ x q. made (suc k) (getD modes p 0) x f q) shows (sym (Laws.shown-port t clock modes n b k there))
+    ∙ ap₂ (λ x q. made (suc k) (getD modes p 0) x f q) shows (sym (shown-port t clock modes n b k there))
     in
-    subst (λ x. Does st x p (c .before .before .make .result) (shown t clock modes after b)) (sym (Laws.create-found t st p e f k found there))
-    (Laws.serves-does t clock modes n b after b k p (c .before .before .make .result) served there (subst (Serves n b after b k p (c .before .before .make .result)) same (c .before .before .make .ensures)))
+    rw (create-found h clock modes p (s .args .event .now) f (c .before .before .before .before .before .before .before .before .before .before .need .ensures) (c .before .before .before .before .before .before .before .before .before .look-up .ensures) inside)
+    (serves-does t clock modes n b (made-at .last .0) b k p (made-at .result) served there (subst (Serves n b (made-at .last .0) b k p (made-at .result)) same (made-at .ensures)))
 
 pub create-spec : {M : Type 1} → statement M
 create-spec =

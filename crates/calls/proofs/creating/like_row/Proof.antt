@@ -1,37 +1,27 @@
 -- `calls::creating::like_row` meets its contract: the tests in their order. Assumes nothing.
-use Prim.Native.Nat.{_-_}
 use mathlib.Core.Path.{sym}
-use Rattle.model.specs.Tables.{row}
 use Rattle.tables.specs.Shown as Shown
 use Rattle.events.specs.Shown.{callOf}
-use Rattle.ports.specs.Held.{rowOf}
 use Rattle.calls.proofs.Laws
 use borrow.Author.Needs.{needs}
 use Rattle.calls.proofs.creating.like_row.Statement.{statement}
 use Rattle.calls.proofs.creating.like_row.Tie as tie
-use Rattle.calls.proofs.creating.like_row.Reads as reads
-use Rattle.calls.proofs.creating.like_row.Lts as lts
-use Rattle.calls.proofs.creating.period.Reads as period-reads
 
--- src/creating.rt:38:9
 returns : tie.Need-returns
 returns c =
     let r = Shown.rowOf (c .before .before .before .args .row) in
     let f = callOf (c .before .before .before .args .f) in
     sym (Laws.unlike-size r f (c .if1 .taken))
 
--- src/creating.rt:41:9
 returns-2 : tie.Need-returns-2
 returns-2 c =
     let r = Shown.rowOf (c .before .before .before .before .before .before .args .row) in
     let f = callOf (c .before .before .before .before .before .before .args .f) in
     sym (Laws.unlike-direction r f (c .before .before .before .if1 .left) (c .if2 .taken))
 
--- src/creating.rt:43:17
 period-requires : tie.Need-period-requires
 period-requires c κs = search needs
 
--- src/creating.rt:34:1
 returns-3 : tie.Need-returns-3
 returns-3 c =
     let r = Shown.rowOf (c .before .before .before .before .before .before .before .before .args .row) in

@@ -1,132 +1,71 @@
 -- `calls::creating::make` meets its contract: the tests in their order. Assumes nothing.
-use Prim.Native.Nat.{_+_, _-_}
-use mathlib.Core.Path.{sym, _∙_}
-use borrow.Author.Tests.{not-true, not-false}
-use Rattle.model.specs.Tables.{row}
 use Rattle.tables.specs.Shown as Shown
 use Rattle.events.specs.Shown.{callOf}
-use Rattle.ports.specs.Held.{rowOf, portAt}
-use Rattle.services.proofs.Cases.{refuse-as, serve-as}
-use Rattle.calls.proofs.Laws
+use Rattle.services.proofs.Cases.{kept}
+use Rattle.calls.proofs.Laws.{made-again, made-unlike, made-normal, made-done}
 use Rattle.ports.proofs.Marks.{put-created}
 use borrow.Author.Needs.{needs}
 use Rattle.calls.proofs.creating.make.Statement.{statement}
 use Rattle.calls.proofs.creating.make.Tie as tie
-use Rattle.calls.proofs.creating.make.Reads as reads
-use Rattle.calls.proofs.creating.make.Lts as lts
-use Rattle.calls.proofs.creating.like_row.Reads as like-row-reads
-use Rattle.events.proofs.refusal.Reads as refusal-reads
-use Rattle.events.proofs.told_id.Reads as told-id-reads
-use Rattle.ports.proofs.number.Reads as number-reads
-use Rattle.ports.proofs.set_number.Reads as set-number-reads
 
--- src/creating.rt:59:8
 number-requires : tie.Need-number-requires
 number-requires c κs = search needs
 
--- src/creating.rt:60:9
 refusal-requires : tie.Need-refusal-requires
 refusal-requires c κs = search needs
 
--- src/creating.rt:60:9
 same-length : tie.Need-same-length
 same-length c = search needs
 
--- src/creating.rt:60:9
 returns : tie.Need-returns
 returns c =
-    let s = c .before .before .before .before .before .before in
-    let n = s .args .numbers .now in
-    let b = s .args .bytes .now in
-    let k = s .args .k in
-    let r = Shown.rowOf (s .args .row) in
-    let f = callOf (s .args .f) in
-    let q = portAt n b k in
-    let d = s .args .doer in
-    let mark = Laws.created-is n b k in
-    refuse-as n b k d 1 (c .refusal .result) (Laws.made-again (k + 1) (s .args .mode) r f q (mark ∙ sym (c .before .before .number .ensures) ∙ c .before .if1 .taken)) (c .refusal .ensures)
+    let a = c .before .before .before .before .before .before .args in
+    rw (made-again (a .numbers .now) (a .bytes .now) (a .k) (a .mode) (Shown.rowOf (a .row)) (callOf (a .f)) (c .before .before .number .ensures) (c .before .if1 .taken)) (kept (c .refusal .ensures))
 
--- src/creating.rt:62:9
 like-row-requires : tie.Need-like-row-requires
 like-row-requires c κs = search needs
 
--- src/creating.rt:63:9
 refusal-requires-2 : tie.Need-refusal-requires-2
 refusal-requires-2 c κs = search needs
 
--- src/creating.rt:63:9
 same-length-2 : tie.Need-same-length-2
 same-length-2 c = search needs
 
--- src/creating.rt:63:9
 returns-2 : tie.Need-returns-2
 returns-2 c =
-    let s = c .before .before .before .before .before .before .before .before in
-    let n = s .args .numbers .now in
-    let b = s .args .bytes .now in
-    let k = s .args .k in
-    let r = Shown.rowOf (s .args .row) in
-    let f = callOf (s .args .f) in
-    let q = portAt n b k in
-    let d = s .args .doer in
-    let mark = Laws.created-is n b k in
-    refuse-as n b k d 4 (c .refusal2 .result) (Laws.made-unlike (k + 1) (s .args .mode) r f q (λ z. c .before .before .before .if1 .left (c .before .before .before .before .number .ensures ∙ sym mark ∙ z)) (sym (c .before .before .like-row .ensures) ∙ not-true _ (c .before .if2 .taken))) (c .refusal2 .ensures)
+    let a = c .before .before .before .before .before .before .before .before .args in
+    rw (made-unlike (a .numbers .now) (a .bytes .now) (a .k) (a .mode) (Shown.rowOf (a .row)) (callOf (a .f)) (c .before .before .before .before .number .ensures) (c .before .before .before .if1 .left) (c .before .before .like-row .ensures) (c .before .if2 .taken)) (kept (c .refusal2 .ensures))
 
--- src/creating.rt:66:9
 refusal-requires-3 : tie.Need-refusal-requires-3
 refusal-requires-3 c κs = search needs
 
--- src/creating.rt:66:9
 same-length-3 : tie.Need-same-length-3
 same-length-3 c = search needs
 
--- src/creating.rt:66:9
 returns-3 : tie.Need-returns-3
 returns-3 c =
-    let s = c .before .before .before .before .before .before .before .before .before in
-    let n = s .args .numbers .now in
-    let b = s .args .bytes .now in
-    let k = s .args .k in
-    let r = Shown.rowOf (s .args .row) in
-    let f = callOf (s .args .f) in
-    let q = portAt n b k in
-    let d = s .args .doer in
-    let mark = Laws.created-is n b k in
-    refuse-as n b k d 5 (c .refusal3 .result) (Laws.made-normal (k + 1) (s .args .mode) r f q (λ z. c .before .before .before .before .if1 .left (c .before .before .before .before .before .number .ensures ∙ sym mark ∙ z)) (sym (c .before .before .before .like-row .ensures) ∙ not-false _ (c .before .before .if2 .left)) (c .before .if3 .taken)) (c .refusal3 .ensures)
+    let a = c .before .before .before .before .before .before .before .before .before .args in
+    rw (made-normal (a .numbers .now) (a .bytes .now) (a .k) (a .mode) (Shown.rowOf (a .row)) (callOf (a .f)) (c .before .before .before .before .before .number .ensures) (c .before .before .before .before .if1 .left) (c .before .before .before .like-row .ensures) (c .before .before .if2 .left) (c .before .if3 .taken)) (kept (c .refusal3 .ensures))
 
--- src/creating.rt:68:5
 set-number-requires : tie.Need-set-number-requires
 set-number-requires c κs = search needs
 
--- src/creating.rt:69:28
 add-told-id : tie.Need-add-told-id
 add-told-id c = search needs
 
--- src/creating.rt:69:27
 cast-told-id : tie.Need-cast-told-id
 cast-told-id c = search needs
 
--- src/creating.rt:69:5
 told-id-requires : tie.Need-told-id-requires
 told-id-requires c κs = search needs
 
--- src/creating.rt:47:1
 same-length-4 : tie.Need-same-length-4
 same-length-4 c = search needs
 
--- src/creating.rt:47:1
 returns-4 : tie.Need-returns-4
 returns-4 c =
-    let s = c .before .before .before .before .before .before .before .before .before .before .before .before .before in
-    let n = s .args .numbers .now in
-    let b = s .args .bytes .now in
-    let k = s .args .k in
-    let r = Shown.rowOf (s .args .row) in
-    let f = callOf (s .args .f) in
-    let q = portAt n b k in
-    let d = s .args .doer in
-    let mark = Laws.created-is n b k in
-    serve-as d (Laws.made-done (k + 1) (s .args .mode) r f q (λ z. c .before .before .before .before .before .before .before .before .if1 .left (c .before .before .before .before .before .before .before .before .before .number .ensures ∙ sym mark ∙ z)) (sym (c .before .before .before .before .before .before .before .like-row .ensures) ∙ not-false _ (c .before .before .before .before .before .before .if2 .left)) (c .before .before .before .before .before .if3 .left)) (c .told-id .ensures) (put-created n b k 1 (c .before .before .before .set-number .ensures))
+    let a = c .before .before .before .before .before .before .before .before .before .before .before .before .before .args in
+    rw (made-done (a .numbers .now) (a .bytes .now) (a .k) (a .mode) (Shown.rowOf (a .row)) (callOf (a .f)) (c .before .before .before .before .before .before .before .before .before .number .ensures) (c .before .before .before .before .before .before .before .before .if1 .left) (c .before .before .before .before .before .before .before .like-row .ensures) (c .before .before .before .before .before .before .if2 .left) (c .before .before .before .before .before .if3 .left)) (c .told-id .ensures, put-created (a .numbers .now) (a .bytes .now) (a .k) 1 (c .before .before .before .set-number .ensures))
 
 pub make-spec : {M : Type 1} → statement M
 make-spec =

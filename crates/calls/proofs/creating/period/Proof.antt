@@ -1,28 +1,19 @@
 -- `calls::creating::period` meets its contract, by the case of the row. Assumes nothing.
-use Prim.Native.Nat.{_-_}
 use mathlib.Core.Path.{sym}
-use Rattle.model.specs.Tables.{row}
-use Rattle.tables.specs.Shown as Shown
 use Rattle.calls.proofs.Laws
 use borrow.Author.Needs.{needs}
 use Rattle.calls.proofs.creating.period.Statement.{statement}
 use Rattle.calls.proofs.creating.period.Tie as tie
-use Rattle.calls.proofs.creating.period.Reads as reads
-use Rattle.calls.proofs.creating.period.Lts as lts
 
--- src/creating.rt:28:28
 enum-known-transfer : tie.Need-enum-known-transfer
 enum-known-transfer c = search needs
 
--- src/creating.rt:29:27
 enum-known-transfer-2 : tie.Need-enum-known-transfer-2
 enum-known-transfer-2 c = search needs
 
--- src/creating.rt:23:1
 returns : tie.Need-returns
 returns c = sym (Laws.period-sampling (c .before .before .before .args .row) (c .before .transfer .given .0 .0) (c .before .transfer .given .1))
 
--- src/creating.rt:23:1
 returns-2 : tie.Need-returns-2
 returns-2 c = sym (Laws.period-queuing (c .before .before .before .args .row) (c .before .transfer2 .given .0 .0) (c .before .transfer2 .given .1))
 

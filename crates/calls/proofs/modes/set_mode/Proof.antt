@@ -1,33 +1,22 @@
 -- `calls::modes::set_mode` meets its contract: the tests in their order, then the mode and the sweep. Assumes nothing.
-use Prim.Native.Nat.{_-_}
 use mathlib.Core.Path.{_≡_, refl, ap}
 use borrow.Author.Tests.{ne-eqb}
 use lib.Dec.{eqb}
 use lib.ListN.{getD, set}
-use Rattle.model.specs.Answers.{nothingTold}
 use mathlib.Core.Logic.{⊎-elim}
 use mathlib.Core.Bool.{false, _&&_, and-false}
-use Rattle.tables.specs.Shown as Shown
 use Rattle.services.specs.Did.{shown}
 use Rattle.calls.proofs.Laws
 use borrow.Author.Needs.{needs}
 use Rattle.calls.proofs.modes.set_mode.Statement.{statement}
 use Rattle.calls.proofs.modes.set_mode.Tie as tie
-use Rattle.calls.proofs.modes.set_mode.Reads as reads
-use Rattle.calls.proofs.modes.set_mode.Lts as lts
-use Rattle.calls.proofs.modes.unmake_all.Reads as unmake-all-reads
-use Rattle.events.proofs.done.Reads as done-reads
-use Rattle.events.proofs.refusal.Reads as refusal-reads
 
--- src/modes.rt:55:16
 slice-read-mode : tie.Need-slice-read-mode
 slice-read-mode c = search needs
 
--- src/modes.rt:57:9
 refusal-requires : tie.Need-refusal-requires
 refusal-requires c κs = search needs
 
--- src/modes.rt:57:9
 returns : tie.Need-returns
 returns c =
     let s = c .before .before .before .before .before .before in
@@ -36,13 +25,11 @@ returns c =
     let n = s .args .numbers .now in
     let p = s .args .p in
     let m = s .args .m in
-    λ b clock. Laws.refused-does (shown t clock ms n b) p 3 (c .refusal .result) (Laws.mode-unknown t (shown t clock ms n b) p m (c .before .if1 .taken)) (c .refusal .ensures)
+    λ b clock. rw (Laws.mode-unknown t (shown t clock ms n b) p m (c .before .if1 .taken)) (Laws.refused-does (c .refusal .ensures))
 
--- src/modes.rt:61:13
 refusal-requires-2 : tie.Need-refusal-requires-2
 refusal-requires-2 c κs = search needs
 
--- src/modes.rt:61:13
 returns-2 : tie.Need-returns-2
 returns-2 c =
     let s = c .before .before .before .before .before .before .before .before in
@@ -51,21 +38,17 @@ returns-2 c =
     let n = s .args .numbers .now in
     let p = s .args .p in
     let m = s .args .m in
-    λ b clock. Laws.refused-does (shown t clock ms n b) p 1 (c .refusal2 .result) (Laws.mode-again t (shown t clock ms n b) p m (c .before .before .if2 .taken) (c .before .if3 .taken)) (c .refusal2 .ensures)
+    λ b clock. rw (Laws.mode-again t (shown t clock ms n b) p m (c .before .before .if2 .taken) (c .before .if3 .taken)) (Laws.refused-does (c .refusal2 .ensures))
 
--- src/modes.rt:63:9
 slice-write-modes : tie.Need-slice-write-modes
 slice-write-modes c = search needs
 
--- src/modes.rt:64:9
 done-requires : tie.Need-done-requires
 done-requires c κs = search needs
 
--- src/modes.rt:64:9
 same-length : tie.Need-same-length
 same-length c = search needs
 
--- src/modes.rt:64:9
 returns-3 : tie.Need-returns-3
 returns-3 c =
     let s = c .before .before .before .before .before .before .before .before in
@@ -74,13 +57,11 @@ returns-3 c =
     let n = s .args .numbers .now in
     let p = s .args .p in
     let m = s .args .m in
-    λ b clock. Laws.done-does nothingTold (Laws.mode-normal t (shown t clock ms n b) p m (c .before .before .if2 .taken) (c .before .if3 .left)) (c .done .ensures) refl
+    λ b clock. rw (Laws.mode-normal t (shown t clock ms n b) p m (c .before .before .if2 .taken) (c .before .if3 .left)) (record { answered = c .done .ensures; left = refl })
 
--- src/modes.rt:68:13
 refusal-requires-3 : tie.Need-refusal-requires-3
 refusal-requires-3 c κs = search needs
 
--- src/modes.rt:68:13
 returns-4 : tie.Need-returns-4
 returns-4 c =
     let s = c .before .before .before .before .before .before .before .before .before in
@@ -89,29 +70,23 @@ returns-4 c =
     let n = s .args .numbers .now in
     let p = s .args .p in
     let m = s .args .m in
-    λ b clock. Laws.refused-does (shown t clock ms n b) p 5 (c .refusal3 .result) (Laws.mode-cold t (shown t clock ms n b) p m (c .before .before .if4 .taken) (c .before .if5 .taken)) (c .refusal3 .ensures)
+    λ b clock. rw (Laws.mode-cold t (shown t clock ms n b) p m (c .before .before .if4 .taken) (c .before .if5 .taken)) (Laws.refused-does (c .refusal3 .ensures))
 
--- src/modes.rt:71:5
 slice-write-modes-2 : tie.Need-slice-write-modes-2
 slice-write-modes-2 c = search needs
 
--- src/modes.rt:72:5
 unmake-all-requires : tie.Need-unmake-all-requires
 unmake-all-requires c κs = search needs
 
--- src/modes.rt:73:5
 done-requires-2 : tie.Need-done-requires-2
 done-requires-2 c κs = search needs
 
--- src/modes.rt:42:1
 same-length-2 : tie.Need-same-length-2
 same-length-2 c = search needs
 
--- src/modes.rt:42:1
 same-length-3 : tie.Need-same-length-3
 same-length-3 c = search needs
 
--- src/modes.rt:42:1
 returns-5 : tie.Need-returns-5
 returns-5 c =
     let s = c .before .before .before .before .before .before .before .before .before .before .before .before in
@@ -123,8 +98,7 @@ returns-5 c =
     let other : (eqb m 2 && eqb (getD ms p 0) 1) ≡ false =
     ⊎-elim (λ w. (rw (ne-eqb (getD ms p 0) 1 (w .1 .left)) (and-false (eqb m 2)))) (λ w. rw (ne-eqb m 2 (w .left))) (c .before .before .before .before .before .if4 .came)
     in
-    λ b clock. Laws.done-does nothingTold (Laws.mode-start t (shown t clock ms n b) p m (c .before .before .before .before .before .before .before .if1 .left) (c .before .before .before .before .before .before .if2 .left) other) (c .done2 .ensures)
-    (ap (λ ps. record { clock = clock; modes = set ms p m; ports = ps }) (c .before .before .before .unmake-all .ensures b))
+    λ b clock. rw (Laws.mode-start t (shown t clock ms n b) p m (c .before .before .before .before .before .before .before .if1 .left) (c .before .before .before .before .before .before .if2 .left) other) (record { answered = c .done2 .ensures; left = ap (λ ps. record { clock = clock; modes = set ms p m; ports = ps }) (c .before .before .before .unmake-all .ensures b) })
 
 pub set-mode-spec : {M : Type 1} → statement M
 set-mode-spec =

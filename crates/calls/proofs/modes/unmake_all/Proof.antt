@@ -9,9 +9,6 @@ use Rattle.model.specs.Tables.{ports, rowAt}
 use Rattle.calls.proofs.Sweep.{Swept, swept-none, swept-taken, swept-kept, swept-all}
 use Rattle.calls.proofs.modes.unmake_all.Statement.{statement}
 use Rattle.calls.proofs.modes.unmake_all.Tie as tie
-use Rattle.calls.proofs.modes.unmake_all.Reads as reads
-use Rattle.calls.proofs.modes.unmake_all.Lts as lts
-use Rattle.calls.proofs.modes.unmake.Reads as unmake-reads
 
 abbrev Inv-loop : tie.InvT-loop
 Inv-loop t lay numbers₀ p k₀ numbers k = (k ≤ ports t) × (length numbers ≡ length numbers₀) × Swept t p k numbers₀ numbers
@@ -19,46 +16,35 @@ Inv-loop t lay numbers₀ p k₀ numbers k = (k ≤ ports t) × (length numbers 
 abbrev μ-loop : tie.MeasureT-loop
 μ-loop t lay numbers₀ p k₀ numbers k = lay .ports - k
 
--- src/modes.rt:33:5
 loop-holds : tie.Need-loop-holds Inv-loop μ-loop
 loop-holds c = (omega arith, refl, swept-none _ _ _)
 
--- src/modes.rt:34:20
 add-if2 : tie.Need-add-if2 Inv-loop μ-loop
 add-if2 c = search needs
 
--- src/modes.rt:34:14
 mul-if2 : tie.Need-mul-if2 Inv-loop μ-loop
 mul-if2 c = search needs
 
--- src/modes.rt:34:14
 add-if2-2 : tie.Need-add-if2-2 Inv-loop μ-loop
 add-if2-2 c = search needs
 
--- src/modes.rt:34:12
 shared-slice-read-if2 : tie.Need-shared-slice-read-if2 Inv-loop μ-loop
 shared-slice-read-if2 c = search needs
 
--- src/modes.rt:35:13
 unmake-requires : tie.Need-unmake-requires Inv-loop μ-loop
 unmake-requires c κs =
     let s = c .before .before .before .before .before .before .before .before .before in
     let t = s .args .t .now in
-    let p = s .args .p in
-    let n = s .args .numbers .now in
     let l = c .before .before .before .before .before .before .loop in
     let inside : l .k < ports t = omega (arith, s .pre .0 .laid .ported, c .before .before .before .before .if1 .taken) in
     (l .inv .1 ∙ s .pre .1, omega (arith, inside, s .pre .0 .few))
 
--- src/modes.rt:37:13
 add-k : tie.Need-add-k Inv-loop μ-loop
 add-k c = search needs
 
--- src/modes.rt:33:5
 loop-less : tie.Need-loop-less Inv-loop μ-loop
 loop-less c = search needs
 
--- src/modes.rt:33:5
 loop-again : tie.Need-loop-again Inv-loop μ-loop
 unfolding rowAt
 loop-again c =
@@ -79,11 +65,9 @@ loop-again c =
     (λ w. (more, ap length (w .1) ∙ l .inv .1, subst (Swept t p (l .k + 1) n) (sym (w .1)) (swept-kept t p n (l .k) (l .numbers) (l .inv .2) (rw v at (w .0 .left)))))
     (c .if2 .came)
 
--- src/modes.rt:27:1
 same-length : tie.Need-same-length Inv-loop μ-loop
 same-length c = search needs
 
--- src/modes.rt:27:1
 returns : tie.Need-returns Inv-loop μ-loop
 returns c =
     let s = c .before .before .before .before .before in

@@ -1,31 +1,22 @@
 -- `calls::names::is_named` meets its contract: the tests in their order. Assumes nothing.
-use Prim.Native.Nat.{_-_}
 use mathlib.Core.Path.{sym, _∙_}
 use Rattle.calls.proofs.LookUp.{not-owner, not-mode, by-name}
 use borrow.Author.Needs.{needs}
 use Rattle.calls.proofs.names.is_named.Statement.{statement}
 use Rattle.calls.proofs.names.is_named.Tie as tie
-use Rattle.calls.proofs.names.is_named.Reads as reads
-use Rattle.calls.proofs.names.is_named.Lts as lts
-use Rattle.tables.proofs.same_name.Reads as same-name-reads
 
--- src/names.rt:17:20
 add-at : tie.Need-add-at
 add-at c = search needs
 
--- src/names.rt:17:14
 mul-at : tie.Need-mul-at
 mul-at c = search needs
 
--- src/names.rt:18:10
 add-if1 : tie.Need-add-if1
 add-if1 c = search needs
 
--- src/names.rt:18:8
 shared-slice-read-if1 : tie.Need-shared-slice-read-if1
 shared-slice-read-if1 c = search needs
 
--- src/names.rt:19:9
 returns : tie.Need-returns
 returns c =
     let a = c .before .before .before .before .before .args in
@@ -33,15 +24,12 @@ returns c =
     let w = c .before .before .before .before .before .pre .0 .laid .windowed in
     sym (not-owner t (a .p) (a .mode) (a .event .now) (a .k) (rw w at (c .if1 .taken)))
 
--- src/names.rt:21:10
 add-if2 : tie.Need-add-if2
 add-if2 c = search needs
 
--- src/names.rt:21:8
 shared-slice-read-if2 : tie.Need-shared-slice-read-if2
 shared-slice-read-if2 c = search needs
 
--- src/names.rt:22:9
 returns-2 : tie.Need-returns-2
 returns-2 c =
     let a = c .before .before .before .before .before .before .before .args in
@@ -49,15 +37,12 @@ returns-2 c =
     let w = c .before .before .before .before .before .before .before .pre .0 .laid .windowed in
     sym (not-mode t (a .p) (a .mode) (a .event .now) (a .k) (rw w at (c .before .before .if1 .left)) (rw w at (c .if2 .taken)))
 
--- src/names.rt:24:26
 add-same-name : tie.Need-add-same-name
 add-same-name c = search needs
 
--- src/names.rt:24:5
 same-name-requires : tie.Need-same-name-requires
 same-name-requires c κs = search needs
 
--- src/names.rt:12:1
 returns-3 : tie.Need-returns-3
 returns-3 c =
     let a = c .before .before .before .before .before .before .before .before .args in

@@ -9,9 +9,6 @@ use Rattle.model.specs.Services.{isNamed, lookUp}
 use Rattle.model.proofs.Searches.{first-more, first-stop, first-end}
 use Rattle.calls.proofs.names.look_up.Statement.{statement}
 use Rattle.calls.proofs.names.look_up.Tie as tie
-use Rattle.calls.proofs.names.look_up.Reads as reads
-use Rattle.calls.proofs.names.look_up.Lts as lts
-use Rattle.calls.proofs.names.is_named.Reads as is-named-reads
 
 abbrev Inv-loop : tie.InvT-loop
 Inv-loop t lay p mode event k₀ k = (k ≤ ports t) × (lookUp t p mode event ≡ first (isNamed t p mode event) (ports t - k) k)
@@ -19,7 +16,6 @@ Inv-loop t lay p mode event k₀ k = (k ≤ ports t) × (lookUp t p mode event �
 abbrev μ-loop : tie.MeasureT-loop
 μ-loop t lay p mode event k₀ k = lay .ports - k
 
--- src/names.rt:34:5
 loop-holds : tie.Need-loop-holds Inv-loop μ-loop
 unfolding lookUp
 loop-holds c =
@@ -27,13 +23,11 @@ loop-holds c =
     let whole : ports t - 0 ≡ ports t = omega arith in
     (omega arith, ap (λ n. first (isNamed t (c .before .before .args .p) (c .before .before .args .mode) (c .before .before .args .event .now)) n 0) (sym whole))
 
--- src/names.rt:35:12
 is-named-requires : tie.Need-is-named-requires Inv-loop μ-loop
 is-named-requires c κs =
     let n = c .before .before .before .before .before .pre .0 .laid .ported in
     (c .before .before .before .before .before .pre .0, (c .before .before .before .before .before .pre .1, omega (arith, n, c .if1 .taken)))
 
--- src/names.rt:36:13
 returns : tie.Need-returns Inv-loop μ-loop
 returns c =
     let a = c .before .before .before .before .before .before .before .args in
@@ -43,15 +37,12 @@ returns c =
     let k = c .before .before .before .before .loop .k in
     sym (c .before .before .before .before .loop .inv .1 ∙ first-stop p (ports t) k (omega (arith, n, c .before .before .if1 .taken)) (sym (c .before .is-named .ensures) ∙ c .if2 .taken))
 
--- src/names.rt:38:13
 add-k : tie.Need-add-k Inv-loop μ-loop
 add-k c = search needs
 
--- src/names.rt:34:5
 loop-less : tie.Need-loop-less Inv-loop μ-loop
 loop-less c = search needs
 
--- src/names.rt:34:5
 loop-again : tie.Need-loop-again Inv-loop μ-loop
 loop-again c =
     let a = c .before .before .before .before .before .before .before .args in
@@ -62,7 +53,6 @@ loop-again c =
     let inside : k < ports t = omega (arith, n, c .before .before .if1 .taken) in
     (omega arith, c .before .before .before .before .loop .inv .1 ∙ first-more p (ports t) k inside (sym (c .before .is-named .ensures) ∙ c .if2 .left))
 
--- src/names.rt:28:1
 returns-2 : tie.Need-returns-2 Inv-loop μ-loop
 returns-2 c =
     let a = c .before .before .before .before .before .args in

@@ -1,24 +1,15 @@
 -- `calls::owning::own` meets its contract: the tests in their order. Assumes nothing.
-use Prim.Native.Nat.{_-_}
 use mathlib.Core.Path.{sym, _∙_, ap}
 use native.Mathlib.Omega.{arith}
-use Rattle.model.specs.Events.{need}
-use Rattle.tables.specs.Shown as Shown
 use Rattle.events.specs.Shown.{callOf}
 use Rattle.calls.proofs.Laws
 use borrow.Author.Needs.{needs}
 use Rattle.calls.proofs.owning.own.Statement.{statement}
 use Rattle.calls.proofs.owning.own.Tie as tie
-use Rattle.calls.proofs.owning.own.Reads as reads
-use Rattle.calls.proofs.owning.own.Lts as lts
-use Rattle.events.proofs.need.Reads as need-reads
-use Rattle.ports.proofs.number.Reads as number-reads
 
--- src/owning.rt:24:14
 cast-id : tie.Need-cast-id
 cast-id c = search needs
 
--- src/owning.rt:26:9
 returns : tie.Need-returns
 returns c =
     let s = c .before .before .before .before in
@@ -26,11 +17,8 @@ returns c =
     let n = s .args .numbers .now in
     let p = s .args .p in
     let f = callOf (s .args .f) in
-    let w = s .pre .0 .laid .windowed in
-    let m = s .pre .0 .laid .ported in
     sym (Laws.own-none t n p f (omega (arith, c .if1 .taken)))
 
--- src/owning.rt:29:9
 returns-2 : tie.Need-returns-2
 returns-2 c =
     let s = c .before .before .before .before .before .before in
@@ -38,27 +26,21 @@ returns-2 c =
     let n = s .args .numbers .now in
     let p = s .args .p in
     let f = callOf (s .args .f) in
-    let w = s .pre .0 .laid .windowed in
     let m = s .pre .0 .laid .ported in
     sym (Laws.own-past t n p f (omega (arith, c .before .before .if1 .left)) (omega (arith, m, c .if2 .taken)))
 
--- src/owning.rt:32:20
 add-at : tie.Need-add-at
 add-at c = search needs
 
--- src/owning.rt:32:14
 mul-at : tie.Need-mul-at
 mul-at c = search needs
 
--- src/owning.rt:33:10
 add-if3 : tie.Need-add-if3
 add-if3 c = search needs
 
--- src/owning.rt:33:8
 shared-slice-read-if3 : tie.Need-shared-slice-read-if3
 shared-slice-read-if3 c = search needs
 
--- src/owning.rt:34:9
 returns-3 : tie.Need-returns-3
 returns-3 c =
     let s = c .before .before .before .before .before .before .before .before .before in
@@ -70,19 +52,15 @@ returns-3 c =
     let m = s .pre .0 .laid .ported in
     sym (Laws.own-other t n p f (omega (arith, c .before .before .before .before .before .if1 .left)) (omega (arith, m, c .before .before .before .if2 .left)) (rw w at (c .if3 .taken)))
 
--- src/owning.rt:36:9
 need-requires : tie.Need-need-requires
 need-requires c κs = search needs
 
--- src/owning.rt:37:10
 add-if4 : tie.Need-add-if4
 add-if4 c = search needs
 
--- src/owning.rt:37:8
 shared-slice-read-if4 : tie.Need-shared-slice-read-if4
 shared-slice-read-if4 c = search needs
 
--- src/owning.rt:38:9
 returns-4 : tie.Need-returns-4
 returns-4 c =
     let s = c .before .before .before .before .before .before .before .before .before .before .before .before .before in
@@ -94,11 +72,9 @@ returns-4 c =
     let m = s .pre .0 .laid .ported in
     sym (Laws.own-mode t n p f (omega (arith, c .before .before .before .before .before .before .before .before .before .if1 .left)) (omega (arith, m, c .before .before .before .before .before .before .before .if2 .left)) (rw w at (c .before .before .before .before .if3 .left)) (λ q. (rw w at (c .if4 .taken)) (q ∙ sym (ap (λ x. x .mode) (c .before .before .before .need .ensures)))))
 
--- src/owning.rt:40:5
 number-requires : tie.Need-number-requires
 number-requires c κs = search needs
 
--- src/owning.rt:19:1
 returns-5 : tie.Need-returns-5
 returns-5 c =
     let s = c .before .before .before .before .before .before .before .before .before .before .before .before .before .before in

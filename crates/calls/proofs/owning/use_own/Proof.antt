@@ -9,35 +9,27 @@ use Rattle.model.specs.Services.{serve}
 use Rattle.model.proofs.Accepted.{accepted}
 use Rattle.tables.specs.Shown as Shown
 use Rattle.events.specs.Shown.{callOf}
-use Rattle.ports.specs.Held.{rowOf, portAt}
-use Rattle.services.specs.Did.{Does, shown}
+use Rattle.ports.specs.Held.{portAt}
+use Rattle.services.specs.Did.{shown}
 use Rattle.services.specs.Served.{Serves}
+use Rattle.services.proofs.Holding.{fits-of, row-read, shown-port}
 use Rattle.calls.proofs.Laws
+use Rattle.calls.proofs.Laws.{refused-does}
 use borrow.Author.Needs.{needs}
 use Rattle.calls.proofs.owning.use_own.Statement.{statement}
 use Rattle.calls.proofs.owning.use_own.Tie as tie
-use Rattle.calls.proofs.owning.use_own.Reads as reads
-use Rattle.calls.proofs.owning.use_own.Lts as lts
-use Rattle.calls.proofs.owning.own.Reads as own-reads
-use Rattle.events.proofs.refusal.Reads as refusal-reads
-use Rattle.services.proofs.serve.Reads as serve-reads
-use Rattle.tables.proofs.port_row.Reads as port-row-reads
 
--- src/owning.rt:58:9
 own-requires : tie.Need-own-requires
 own-requires c κs =
     let s = c .before .before .before .before .before in
     (Laws.rows-of (s .pre .0), (s .pre .0 .rows, s .pre .1 .coded))
 
--- src/owning.rt:59:9
 refusal-requires : tie.Need-refusal-requires
 refusal-requires c κs = search needs
 
--- src/owning.rt:59:9
 same-length : tie.Need-same-length
 same-length c = search needs
 
--- src/owning.rt:59:9
 returns : tie.Need-returns
 returns c =
     let s = c .before .before .before .before .before .before .before .before in
@@ -47,22 +39,17 @@ returns c =
     let p = s .args .p in
     let e = s .args .event .now in
     let f = callOf (s .args .f) in
-    let h = s .pre .0 in
-    λ modes clock. Laws.refused-does (shown t clock modes n b) p 3 (c .refusal .result)
-    (Laws.use-refused t (s .args .time) (shown t clock modes n b) p e f (Laws.own-shown t clock modes n b p f ∙ sym (c .before .before .own .ensures) ∙ not-true _ (c .before .if1 .taken))) (c .refusal .ensures)
+    λ modes clock. rw (Laws.use-refused t (s .args .time) (shown t clock modes n b) p e f (Laws.own-shown t clock modes n b p f ∙ sym (c .before .before .own .ensures) ∙ not-true _ (c .before .if1 .taken))) (refused-does (c .refusal .ensures))
 
--- src/owning.rt:61:13
 cast-k : tie.Need-cast-k
 cast-k c = search needs
 
--- src/owning.rt:61:13
 sub-k : tie.Need-sub-k
 sub-k c =
     let s = c .before .before .before .before .before .before .before .before in
     let n = s .args .numbers .now in
     Laws.own-some (s .args .t .now) n (s .args .p) (callOf (s .args .f)) (sym (c .before .before .own .ensures) ∙ not-false _ (c .before .if1 .left))
 
--- src/owning.rt:62:35
 add-port-row : tie.Need-add-port-row
 add-port-row c =
     let s = c .before .before .before .before .before .before .before .before .before in
@@ -71,15 +58,12 @@ add-port-row c =
     let there = Laws.own-there t (s .args .numbers .now) (s .args .p) (callOf (s .args .f)) (sym (c .before .before .before .own .ensures) ∙ not-false _ (c .before .before .if1 .left)) in
     record { fits = omega (arith, there, s .pre .0 .laid .windowed, a .fewWindows, a .fewPorts) }
 
--- src/owning.rt:62:9
 port-row-requires : tie.Need-port-row-requires
 port-row-requires c κs =
     let s = c .before .before .before .before .before .before .before .before .before in
     let t = s .args .t .now in
     let n = s .args .numbers .now in
-    let b = s .args .bytes .now in
     let p = s .args .p in
-    let e = s .args .event .now in
     let f = callOf (s .args .f) in
     let h = s .pre .0 in
     let a = accepted t (h .accepted) in
@@ -87,29 +71,23 @@ port-row-requires c κs =
     let some = Laws.own-some t n p f (sym (c .before .before .before .own .ensures) ∙ not-false _ (c .before .before .if1 .left)) in
     omega (arith, there, some, h .laid .windowed, a .portsAfter, a .channelsAfter)
 
--- src/owning.rt:63:5
 serve-requires : tie.Need-serve-requires
 serve-requires c κs =
     let s = c .before .before .before .before .before .before .before .before .before .before .before .before in
     let t = s .args .t .now in
     let n = s .args .numbers .now in
-    let b = s .args .bytes .now in
     let p = s .args .p in
-    let e = s .args .event .now in
     let f = callOf (s .args .f) in
     let h = s .pre .0 in
     let there = Laws.own-there t n p f (sym (c .before .before .before .before .before .before .own .ensures) ∙ not-false _ (c .before .before .before .before .before .if1 .left)) in
-    (Laws.fits-of h (f .id - 1) there (c .before .before .port-row .result) (c .before .before .port-row .ensures ∙ ap (λ w. Shown.decoded (rowAt t (w + (f .id - 1)))) (h .laid .windowed)), (s .pre .1 .whole, s .pre .1 .coded))
+    (fits-of h (f .id - 1) there (c .before .before .port-row .result) (c .before .before .port-row .ensures ∙ ap (λ w. Shown.decoded (rowAt t (w + (f .id - 1)))) (h .laid .windowed)), (s .pre .1 .whole, s .pre .1 .coded))
 
--- src/owning.rt:44:1
 same-length-2 : tie.Need-same-length-2
 same-length-2 c = search needs
 
--- src/owning.rt:44:1
 same-length-3 : tie.Need-same-length-3
 same-length-3 c = search needs
 
--- src/owning.rt:44:1
 returns-2 : tie.Need-returns-2
 returns-2 c =
     let s = c .before .before .before .before .before .before .before .before .before .before .before .before .before .before .before .before .before in
@@ -124,15 +102,14 @@ returns-2 c =
     let owns = sym (c .before .before .before .before .before .before .before .before .before .before .before .own .ensures) ∙ not-false _ (c .before .before .before .before .before .before .before .before .before .before .if1 .left) in
     let there = Laws.own-there t n p f owns in
     let r = Shown.rowOf (c .before .before .before .before .before .before .before .port-row .result) in
-    let shows = ap Shown.rowOf (c .before .before .before .before .before .before .before .port-row .ensures ∙ ap (λ w. Shown.decoded (rowAt t (w + k))) (h .laid .windowed)) ∙ Laws.row-shown t (accepted t (h .accepted)) k there in
+    let shows = row-read t (accepted t (h .accepted)) k there (c .before .before .before .before .before .before .before .port-row .ensures ∙ ap (λ w. Shown.decoded (rowAt t (w + k))) (h .laid .windowed)) in
     λ modes clock.
     let st = shown t clock modes n b in
     let served = serve (s .args .time) (row t k) e f (port st k) in
     let same : serve (s .args .time) r e f (portAt n b k) ≡ served =
-    ap₂ (λ x q. serve (s .args .time) x e f q) shows (sym (Laws.shown-port t clock modes n b k there))
+    ap₂ (λ x q. serve (s .args .time) x e f q) shows (sym (shown-port t clock modes n b k there))
     in
-    subst (λ x. Does st x p (c .before .before .before .before .serve .result) (shown t clock modes (c .before .before .before .before .serve .last .0) (c .before .before .before .before .serve .last .1 .0)))
-    (sym (Laws.use-served t (s .args .time) st p e f (Laws.own-shown t clock modes n b p f ∙ owns)))
+    rw (Laws.use-served t (s .args .time) st p e f (Laws.own-shown t clock modes n b p f ∙ owns))
     (Laws.serves-does t clock modes n b (c .before .before .before .before .serve .last .0) (c .before .before .before .before .serve .last .1 .0) k p (c .before .before .before .before .serve .result) served there
     (subst (Serves n b (c .before .before .before .before .serve .last .0) (c .before .before .before .before .serve .last .1 .0) k p (c .before .before .before .before .serve .result)) same (c .before .before .before .before .serve .ensures)))
 

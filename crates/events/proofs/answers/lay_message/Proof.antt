@@ -9,8 +9,6 @@ use lib.Seq.{paste, paste-zero, paste-suc, take-all}
 use borrow.Author.Needs.{needs}
 use Rattle.events.proofs.answers.lay_message.Statement.{statement}
 use Rattle.events.proofs.answers.lay_message.Tie as tie
-use Rattle.events.proofs.answers.lay_message.Reads as reads
-use Rattle.events.proofs.answers.lay_message.Lts as lts
 
 abbrev Inv-loop : tie.InvT-loop
 Inv-loop out₀ message i₀ out i = (i ≤ 64) × (length out ≡ length out₀) × (length message ≡ 64) × (out ≡ paste out₀ 16 message i)
@@ -18,31 +16,24 @@ Inv-loop out₀ message i₀ out i = (i ≤ 64) × (length out ≡ length out₀
 abbrev μ-loop : tie.MeasureT-loop
 μ-loop out₀ message i₀ out i = 64 - i
 
--- src/answers.rt:92:5
 loop-holds : tie.Need-loop-holds Inv-loop μ-loop
 loop-holds c = (omega arith, refl, search needs, paste-zero (c .args .out .now) 16 (c .args .t1))
 
--- src/answers.rt:93:23
 array-read-out : tie.Need-array-read-out Inv-loop μ-loop
 array-read-out c = search needs
 
--- src/answers.rt:93:13
 add-out : tie.Need-add-out Inv-loop μ-loop
 add-out c = search needs
 
--- src/answers.rt:93:9
 slice-write-out : tie.Need-slice-write-out Inv-loop μ-loop
 slice-write-out c = search needs
 
--- src/answers.rt:94:13
 add-i : tie.Need-add-i Inv-loop μ-loop
 add-i c = search needs
 
--- src/answers.rt:92:5
 loop-less : tie.Need-loop-less Inv-loop μ-loop
 loop-less c = search needs
 
--- src/answers.rt:92:5
 loop-again : tie.Need-loop-again Inv-loop μ-loop
 loop-again c =
     let l = c .before .loop in
@@ -54,11 +45,9 @@ loop-again c =
       rw (l .inv .3) (paste-suc (a .out .now) 16 (a .t1) (l .i) 0 (omega arith) (omega (arith, l .inv .2)) ∙ ap (paste (a .out .now) 16 (a .t1)) (sym (add-one (l .i)))),
     )
 
--- src/answers.rt:87:1
 same-length : tie.Need-same-length Inv-loop μ-loop
 same-length c = search needs
 
--- src/answers.rt:87:1
 returns : tie.Need-returns Inv-loop μ-loop
 returns c =
     let l = c .before .loop in

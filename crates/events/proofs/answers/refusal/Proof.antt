@@ -3,10 +3,7 @@ use mathlib.Core.Path.{refl}
 use Rattle.events.specs.Shown.{refusedAs}
 use Rattle.events.proofs.answers.refusal.Statement.{statement}
 use Rattle.events.proofs.answers.refusal.Tie as tie
-use Rattle.events.proofs.answers.refusal.Reads as reads
-use Rattle.events.proofs.answers.refusal.Lts as lts
 
--- src/answers.rt:23:1
 returns : tie.Need-returns
 unfolding refusedAs
 returns c = refl

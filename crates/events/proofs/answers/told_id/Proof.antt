@@ -3,15 +3,10 @@ use Rattle.events.specs.Shown.{refusedAs, toldAs}
 use borrow.Author.Needs.{needs}
 use Rattle.events.proofs.answers.told_id.Statement.{statement}
 use Rattle.events.proofs.answers.told_id.Tie as tie
-use Rattle.events.proofs.answers.told_id.Reads as reads
-use Rattle.events.proofs.answers.told_id.Lts as lts
-use Rattle.events.proofs.answers.refusal.Reads as refusal-reads
 
--- src/answers.rt:49:9
 refusal-requires : tie.Need-refusal-requires
 refusal-requires c κs = search needs
 
--- src/answers.rt:46:1
 returns : tie.Need-returns
 unfolding refusedAs toldAs
 returns c = rw (c .refusal .ensures)

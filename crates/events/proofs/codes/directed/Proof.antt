@@ -4,19 +4,13 @@ use borrow.Author.Tests.{eq-eqb, ne-eqb}
 use borrow.Author.Needs.{needs}
 use Rattle.events.proofs.codes.directed.Statement.{statement}
 use Rattle.events.proofs.codes.directed.Tie as tie
-use Rattle.events.proofs.codes.directed.Reads as reads
-use Rattle.events.proofs.codes.directed.Lts as lts
-use Rattle.events.proofs.codes.need.Reads as need-reads
 
--- src/codes.rt:130:9
 need-requires : tie.Need-need-requires
 need-requires c κs = search needs
 
--- src/codes.rt:126:1
 returns : tie.Need-returns
 returns c = rw (sym (ap (λ n. n .direction) (c .before .before .need .ensures)), eq-eqb (c .before .before .need .result .direction) 2 (c .if1 .taken))
 
--- src/codes.rt:126:1
 returns-2 : tie.Need-returns-2
 returns-2 c = rw (sym (ap (λ n. n .direction) (c .before .before .before .need .ensures)), ne-eqb (c .before .before .before .need .result .direction) 2 (c .before .if1 .left))
 

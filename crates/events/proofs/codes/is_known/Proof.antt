@@ -2,14 +2,10 @@
 use borrow.Author.Tests.{le-leb, lt-leb}
 use Rattle.events.proofs.codes.is_known.Statement.{statement}
 use Rattle.events.proofs.codes.is_known.Tie as tie
-use Rattle.events.proofs.codes.is_known.Reads as reads
-use Rattle.events.proofs.codes.is_known.Lts as lts
 
--- src/codes.rt:145:1
 returns : tie.Need-returns
 returns c = rw (le-leb 1 (c .before .args .code) (c .if1 .taken))
 
--- src/codes.rt:145:1
 returns-2 : tie.Need-returns-2
 returns-2 c = rw (lt-leb 1 (c .before .args .code) (c .if1 .left))
 

@@ -3,22 +3,16 @@ use Rattle.events.proofs.Table.{low, inside, table-is}
 use borrow.Author.Needs.{needs}
 use Rattle.events.proofs.codes.need.Statement.{statement}
 use Rattle.events.proofs.codes.need.Tie as tie
-use Rattle.events.proofs.codes.need.Reads as reads
-use Rattle.events.proofs.codes.need.Lts as lts
 
--- src/codes.rt:120:14
 sub-at : tie.Need-sub-at
 sub-at c = low (c .args .code) (c .pre)
 
--- src/codes.rt:121:5
 mul-result : tie.Need-mul-result
 mul-result c = search needs
 
--- src/codes.rt:121:5
 array-copy-out-result : tie.Need-array-copy-out-result
 array-copy-out-result c = inside (c .args .code) (c .pre)
 
--- src/codes.rt:116:1
 returns : tie.Need-returns
 returns c = table-is (c .before .args .code) _ (c .before .pre)
 

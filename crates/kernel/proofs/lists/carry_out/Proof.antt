@@ -2,19 +2,11 @@
 use mathlib.Core.Path.{sym, _∙_}
 use borrow.Author.Needs.{needs}
 use borrow.Author.Tests.{not-true, not-false}
-use Rattle.model.specs.Run.{answers}
 use Rattle.kernel.proofs.Laws
 use borrow.Author.Needs.{needs}
 use Rattle.kernel.proofs.lists.carry_out.Statement.{statement}
 use Rattle.kernel.proofs.lists.carry_out.Tie as tie
-use Rattle.kernel.proofs.lists.carry_out.Reads as reads
-use Rattle.kernel.proofs.lists.carry_out.Lts as lts
-use Rattle.kernel.proofs.lists.is_accepted.Reads as is-accepted-reads
-use Rattle.kernel.proofs.lists.layout.Reads as layout-reads
-use Rattle.kernel.proofs.lists.run_list.Reads as run-list-reads
-use Rattle.kernel.proofs.lists.state_fits.Reads as state-fits-reads
 
--- src/lists.rt:104:9
 returns : tie.Need-returns
 returns c =
     let s = c .before .before .before .before in
@@ -24,11 +16,9 @@ returns c =
     let b = s .args .answers .now in
     Laws.refuses-28 t st es b (c .if1 .taken)
 
--- src/lists.rt:106:9
 is-accepted-requires : tie.Need-is-accepted-requires
 is-accepted-requires c κs = search needs
 
--- src/lists.rt:107:9
 returns-2 : tie.Need-returns-2
 returns-2 c =
     let s = c .before .before .before .before .before .before in
@@ -38,15 +28,12 @@ returns-2 c =
     let b = s .args .answers .now in
     Laws.refuses-29 t st es b (c .before .before .if1 .left) (Laws.sound-not t st (sym (c .before .is-accepted .ensures) ∙ not-true _ (c .if2 .taken)))
 
--- src/lists.rt:109:9
 layout-requires : tie.Need-layout-requires
 layout-requires c κs = search needs
 
--- src/lists.rt:110:9
 state-fits-requires : tie.Need-state-fits-requires
 state-fits-requires c κs = (sym (c .before .before .is-accepted .ensures) ∙ not-false _ (c .before .if2 .left), c .layout .ensures)
 
--- src/lists.rt:111:9
 returns-3 : tie.Need-returns-3
 returns-3 c =
     let s = c .before .before .before .before .before .before .before .before .before in
@@ -56,7 +43,6 @@ returns-3 c =
     let b = s .args .answers .now in
     Laws.refuses-29 t st es b (c .before .before .before .before .before .if1 .left) (Laws.sound-is t st (sym (c .before .before .before .before .is-accepted .ensures) ∙ not-false _ (c .before .before .before .if2 .left)) (c .before .state-fits .ensures) ∙ not-true _ (c .if3 .taken))
 
--- src/lists.rt:114:9
 returns-4 : tie.Need-returns-4
 returns-4 c =
     let s = c .before .before .before .before .before .before .before .before .before .before in
@@ -66,17 +52,14 @@ returns-4 c =
     let b = s .args .answers .now in
     Laws.runs-none t st es b (c .before .before .before .before .before .before .if1 .left) (Laws.sound-is t st (sym (c .before .before .before .before .before .is-accepted .ensures) ∙ not-false _ (c .before .before .before .before .if2 .left)) (c .before .before .state-fits .ensures) ∙ not-false _ (c .before .if3 .left)) (c .if4 .taken)
 
--- src/lists.rt:118:16
 run-list-requires : tie.Need-run-list-requires
 run-list-requires c κs =
     let s = c .before .before .before .before .before .before .before .before .before .before .before in
     ((sym (c .before .before .before .before .before .before .is-accepted .ensures) ∙ not-false _ (c .before .before .before .before .before .if2 .left), c .before .before .before .before .layout .ensures, sym (c .before .before .before .state-fits .ensures) ∙ not-false _ (c .before .before .if3 .left)), (s .pre, c .before .before .before .before .before .before .before .if1 .left))
 
--- src/lists.rt:99:1
 same-length : tie.Need-same-length
 same-length c = search needs
 
--- src/lists.rt:99:1
 returns-5 : tie.Need-returns-5
 returns-5 c =
     let s = c .before .before .before .before .before .before .before .before .before .before .before .before .before .before in

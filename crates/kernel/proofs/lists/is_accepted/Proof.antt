@@ -3,39 +3,28 @@ use mathlib.Core.Path.{sym, _∙_, ap}
 use borrow.Author.Needs.{needs}
 use Rattle.model.specs.Load.{isAccepted, accepts}
 use Rattle.tables.specs.Shown.{verdictOf}
-use Rattle.kernel.proofs.Laws
 use borrow.Author.Needs.{needs}
 use Rattle.kernel.proofs.lists.is_accepted.Statement.{statement}
 use Rattle.kernel.proofs.lists.is_accepted.Tie as tie
-use Rattle.kernel.proofs.lists.is_accepted.Reads as reads
-use Rattle.kernel.proofs.lists.is_accepted.Lts as lts
-use Rattle.tables.proofs.judge.Reads as judge-reads
 
--- src/lists.rt:31:9
 judge-requires : tie.Need-judge-requires
 judge-requires c κs = search needs
 
--- src/lists.rt:33:30
 enum-told : tie.Need-enum-told
 enum-told c = search needs
 
--- src/lists.rt:34:35
 enum-told-2 : tie.Need-enum-told-2
 enum-told-2 c = search needs
 
--- src/lists.rt:28:1
 returns : tie.Need-returns
 unfolding accepts
 returns c =
-    let s = c .before .before .before .before in
     let verdict = sym (c .before .before .judge .ensures) ∙ ap verdictOf (c .enum-told .given .1) in
     sym (ap isAccepted verdict)
 
--- src/lists.rt:28:1
 returns-2 : tie.Need-returns-2
 unfolding accepts
 returns-2 c =
-    let s = c .before .before .before .before in
     let verdict = sym (c .before .before .judge .ensures) ∙ ap verdictOf (c .enum-told2 .given .1) in
     sym (ap isAccepted verdict)
 

@@ -1,5 +1,5 @@
 -- `kernel::lists::run_list` meets its contract: the run over local arrays, and the state put together. Assumes nothing.
-use Prim.Native.Nat.{_+_, _*_, _/_}
+use Prim.Native.Nat.{_*_, _/_}
 use mathlib.Core.Path.{_≡_, _∙_, ap}
 use mathlib.Core.List.{_++_}
 use native.Mathlib.Omega.{arith}
@@ -8,15 +8,12 @@ use borrow.Author.Needs.{needs}
 use Rattle.model.specs.Run.{answers, eventsOf, joined}
 use Rattle.model.proofs.Accepted.{accepted}
 use Rattle.states.specs.Shown.{shownState}
+use Rattle.services.proofs.Holding.{sized-at}
 use Rattle.kernel.specs.Meets.{settledAs}
 use Rattle.kernel.proofs.Laws
 use borrow.Author.Needs.{needs}
 use Rattle.kernel.proofs.lists.run_list.Statement.{statement}
 use Rattle.kernel.proofs.lists.run_list.Tie as tie
-use Rattle.kernel.proofs.lists.run_list.Reads as reads
-use Rattle.kernel.proofs.lists.run_list.Lts as lts
-use Rattle.states.proofs.put_together.Reads as put-together-reads
-use Rattle.steps.proofs.run_events.Reads as run-events-reads
 
 whole-bytes : (c : tie.Start) → length (c .args .state .bytes) ≡ 32768
 whole-bytes c = search needs
@@ -24,57 +21,41 @@ whole-bytes c = search needs
 whole-numbers : (c : tie.Start) → length (c .args .state .numbers) ≡ 832
 whole-numbers c = search needs
 
--- src/lists.rt:67:17
 cast-t13 : tie.Need-cast-t13
 cast-t13 c = search needs
 
--- src/lists.rt:74:9
 slice-aggregate-run-events : tie.Need-slice-aggregate-run-events
 slice-aggregate-run-events c = search needs
 
--- src/lists.rt:75:9
 slice-aggregate-run-events-2 : tie.Need-slice-aggregate-run-events-2
 slice-aggregate-run-events-2 c = search needs
 
--- src/lists.rt:76:9
 slice-aggregate-run-events-3 : tie.Need-slice-aggregate-run-events-3
 slice-aggregate-run-events-3 c = search needs
 
--- src/lists.rt:70:9
 run-events-requires : tie.Need-run-events-requires
 run-events-requires c κs =
     let s = c .before .before .before .before .before .before .before .before .before .before .before in
     let t = s .args .t .now in
     let st = s .args .state in
-    let es = s .args .events .now in
-    let b = s .args .answers .now in
-    let a = accepted t (s .pre .0 .0) in
     (Laws.ready-of t (s .args .lay) st (s .pre .0 .0) (s .pre .0 .1) (s .pre .0 .2) (whole-numbers s) (whole-bytes s), s .pre .1 .1)
 
--- src/lists.rt:83:9
 slice-aggregate-put-together : tie.Need-slice-aggregate-put-together
 slice-aggregate-put-together c = search needs
 
--- src/lists.rt:84:9
 slice-aggregate-put-together-2 : tie.Need-slice-aggregate-put-together-2
 slice-aggregate-put-together-2 c = search needs
 
--- src/lists.rt:86:9
 slice-aggregate-put-together-3 : tie.Need-slice-aggregate-put-together-3
 slice-aggregate-put-together-3 c = search needs
 
--- src/lists.rt:87:9
 slice-aggregate-put-together-4 : tie.Need-slice-aggregate-put-together-4
 slice-aggregate-put-together-4 c = search needs
 
--- src/lists.rt:82:5
 put-together-requires : tie.Need-put-together-requires
 put-together-requires c κs =
     let s = c .before .before .before .before .before .before .before .before .before .before .before .before .before .before .before .before .before .before .before .before .before .before .before in
     let t = s .args .t .now in
-    let st = s .args .state in
-    let es = s .args .events .now in
-    let b = s .args .answers .now in
     let a = accepted t (s .pre .0 .0) in
     let ready = c .before .before .before .before .before .before .before .before .before .before .before .run-events .ensures .ready in (
       (whole-numbers s, whole-bytes s),
@@ -82,26 +63,20 @@ put-together-requires c κs =
         rows = ready .held .rows;
         blocks = ready .held .blocks;
         few = omega (arith, s .pre .0 .1 .ported, a .fewPorts);
-        each = λ k h. Laws.sized-ready ready k (omega (arith, h, s .pre .0 .1 .ported));
+        each = λ k h. sized-at (ready .held) k (omega (arith, h, s .pre .0 .1 .ported));
       },
     )
 
--- src/lists.rt:90:17
 cast-t31 : tie.Need-cast-t31
 cast-t31 c =
     let s = c .before .before .before .before .before .before .before .before .before .before .before .before .before .before .before .before .before .before .before .before .before .before .before .before .before .before .before in
     let t = s .args .t .now in
-    let st = s .args .state in
-    let es = s .args .events .now in
-    let b = s .args .answers .now in
     let a = accepted t (s .pre .0 .0) in
     record { fits = omega (arith, c .before .before .before .before .before .before .before .before .before .before .before .before .before .before .before .run-events .ensures .ready .ranged .inWindow, a .fewWindows) }
 
--- src/lists.rt:58:1
 same-length : tie.Need-same-length
 same-length c = search needs
 
--- src/lists.rt:58:1
 returns : tie.Need-returns
 unfolding settledAs eventsOf
 returns c =
@@ -110,7 +85,6 @@ returns c =
     let st = s .args .state in
     let es = s .args .events .now in
     let b = s .args .answers .now in
-    let a = accepted t (s .pre .0 .0) in
     let run = c .before .before .before .before .before .before .before .before .before .before .before .before .before .before .before .run-events .ensures in
     let put = c .before .before .before .put-together .ensures in
     let n = s .pre .0 .1 .ported in

@@ -6,29 +6,19 @@ use Rattle.kernel.proofs.Laws
 use borrow.Author.Needs.{needs}
 use Rattle.kernel.proofs.lists.sound.Statement.{statement}
 use Rattle.kernel.proofs.lists.sound.Tie as tie
-use Rattle.kernel.proofs.lists.sound.Reads as reads
-use Rattle.kernel.proofs.lists.sound.Lts as lts
-use Rattle.kernel.proofs.lists.is_accepted.Reads as is-accepted-reads
-use Rattle.kernel.proofs.lists.layout.Reads as layout-reads
-use Rattle.kernel.proofs.lists.state_fits.Reads as state-fits-reads
 
--- src/lists.rt:51:9
 is-accepted-requires : tie.Need-is-accepted-requires
 is-accepted-requires c κs = search needs
 
--- src/lists.rt:52:9
 returns : tie.Need-returns
 returns c = sym (Laws.sound-not (c .before .before .before .args .t .now) (c .before .before .before .args .state) (sym (c .before .is-accepted .ensures) ∙ not-true _ (c .if1 .taken)))
 
--- src/lists.rt:54:19
 layout-requires : tie.Need-layout-requires
 layout-requires c κs = search needs
 
--- src/lists.rt:54:5
 state-fits-requires : tie.Need-state-fits-requires
 state-fits-requires c κs = (sym (c .before .before .is-accepted .ensures) ∙ not-false _ (c .before .if1 .left), c .layout .ensures)
 
--- src/lists.rt:48:1
 returns-2 : tie.Need-returns-2
 returns-2 c = sym (Laws.sound-is (c .before .before .before .before .before .args .t .now) (c .before .before .before .before .before .args .state) (sym (c .before .before .before .is-accepted .ensures) ∙ not-false _ (c .before .before .if1 .left)) (c .state-fits .ensures))
 

@@ -1,16 +1,11 @@
 -- `kernel::reader::is_handed` meets its contract: the tests in their order. Assumes nothing.
 use mathlib.Core.Path.{sym}
 use borrow.Author.Needs.{needs}
-use Rattle.model.specs.Run.{answers}
 use Rattle.kernel.proofs.Laws
 use borrow.Author.Needs.{needs}
 use Rattle.kernel.proofs.reader.is_handed.Statement.{statement}
 use Rattle.kernel.proofs.reader.is_handed.Tie as tie
-use Rattle.kernel.proofs.reader.is_handed.Reads as reads
-use Rattle.kernel.proofs.reader.is_handed.Lts as lts
-use Rattle.tables.proofs.word32.Reads as word32-reads
 
--- src/reader.rt:18:9
 returns : tie.Need-returns
 returns c =
     let s = c .before .before in
@@ -18,7 +13,6 @@ returns c =
     let n = s .args .number in
     sym (Laws.torn b n (c .if1 .taken))
 
--- src/reader.rt:21:9
 returns-2 : tie.Need-returns-2
 returns-2 c =
     let s = c .before .before .before in
@@ -26,15 +20,12 @@ returns-2 c =
     let n = s .args .number in
     sym (Laws.not-there b n (c .before .if1 .left) (c .if2 .taken))
 
--- src/reader.rt:23:16
 mul-if3 : tie.Need-mul-if3
 mul-if3 c = search needs
 
--- src/reader.rt:23:8
 shared-slice-read-if3 : tie.Need-shared-slice-read-if3
 shared-slice-read-if3 c = search needs
 
--- src/reader.rt:24:9
 returns-3 : tie.Need-returns-3
 returns-3 c =
     let s = c .before .before .before .before .before in
@@ -42,19 +33,15 @@ returns-3 c =
     let n = s .args .number in
     sym (Laws.not-0 b n (c .before .before .before .if1 .left) (c .before .before .if2 .left) (c .if3 .taken))
 
--- src/reader.rt:26:21
 mul-word32 : tie.Need-mul-word32
 mul-word32 c = search needs
 
--- src/reader.rt:26:21
 add-word32 : tie.Need-add-word32
 add-word32 c = search needs
 
--- src/reader.rt:26:5
 word32-requires : tie.Need-word32-requires
 word32-requires c κs = search needs
 
--- src/reader.rt:14:1
 returns-4 : tie.Need-returns-4
 returns-4 c =
     let s = c .before .before .before .before .before .before in

@@ -5,24 +5,17 @@ use native.Mathlib.Omega.{arith}
 use lib.ListN.{length}
 use borrow.Author.Needs.{needs}
 use borrow.Author.Tests.{not-true, not-false}
-use Rattle.model.specs.Run.{answers}
 use Rattle.kernel.proofs.Laws
 use borrow.Author.Needs.{needs}
 use Rattle.kernel.proofs.reader.place.Statement.{statement}
 use Rattle.kernel.proofs.reader.place.Tie as tie
-use Rattle.kernel.proofs.reader.place.Reads as reads
-use Rattle.kernel.proofs.reader.place.Lts as lts
-use Rattle.kernel.proofs.reader.is_handed.Reads as is-handed-reads
-use Rattle.tables.proofs.word32.Reads as word32-reads
 
 few-bytes : (c : tie.Start) → length (c .args .answers .now) < 2 ^ 64
 few-bytes c = search needs
 
--- src/reader.rt:33:9
 is-handed-requires : tie.Need-is-handed-requires
 is-handed-requires c κs = search needs
 
--- src/reader.rt:34:9
 returns : tie.Need-returns
 returns c =
     let s = c .before .before .before in
@@ -31,7 +24,6 @@ returns c =
     let e = Laws.none-handed b n (sym (c .before .is-handed .ensures) ∙ not-true _ (c .if1 .taken)) in
     record { from = sym (ap (λ x. x .from) e); size = sym (ap (λ x. x .size) e) }
 
--- src/reader.rt:37:15
 mul-t5 : tie.Need-mul-t5
 mul-t5 c =
     let s = c .before .before .before in
@@ -41,7 +33,6 @@ mul-t5 c =
     let there = Laws.handed-there b n h in
     record { fits = omega (arith, there, few-bytes s) }
 
--- src/reader.rt:37:15
 add-t6 : tie.Need-add-t6
 add-t6 c =
     let s = c .before .before .before in
@@ -51,7 +42,6 @@ add-t6 c =
     let there = Laws.handed-there b n h in
     record { fits = omega (arith, there, few-bytes s) }
 
--- src/reader.rt:38:31
 mul-word32 : tie.Need-mul-word32
 mul-word32 c =
     let s = c .before .before .before in
@@ -61,7 +51,6 @@ mul-word32 c =
     let there = Laws.handed-there b n h in
     record { fits = omega (arith, there, few-bytes s) }
 
--- src/reader.rt:38:31
 add-word32 : tie.Need-add-word32
 add-word32 c =
     let s = c .before .before .before in
@@ -71,7 +60,6 @@ add-word32 c =
     let there = Laws.handed-there b n h in
     record { fits = omega (arith, there, few-bytes s) }
 
--- src/reader.rt:38:15
 word32-requires : tie.Need-word32-requires
 word32-requires c κs =
     let s = c .before .before .before in
@@ -81,18 +69,15 @@ word32-requires c κs =
     let there = Laws.handed-there b n h in
     omega (arith, there)
 
--- src/reader.rt:38:15
 cast-t10 : tie.Need-cast-t10
 cast-t10 c = search needs
 
--- src/reader.rt:30:1
 returns-2 : tie.Need-returns-2
 returns-2 c =
     let s = c .before .before .before .before in
     let b = s .args .answers .now in
     let n = s .args .number in
     let h = sym (c .before .before .is-handed .ensures) ∙ not-false _ (c .before .if1 .left) in
-    let there = Laws.handed-there b n h in
     let e = Laws.one-handed b n h in
     record { from = sym (ap (λ x. x .from) e); size = c .word32 .ensures ∙ sym (ap (λ x. x .size) e) }
 

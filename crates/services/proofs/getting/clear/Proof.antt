@@ -3,62 +3,37 @@ use mathlib.Core.Path.{sym, _∙_}
 use borrow.Author.Tests.{not-true, not-false}
 use Rattle.tables.specs.Shown.{rowOf}
 use Rattle.events.specs.Shown.{callOf}
-use Rattle.ports.specs.Held
-use Rattle.ports.specs.Held.{portAt}
 use Rattle.ports.proofs.Marks.{put-none}
-use Rattle.services.proofs.Cases
-use Rattle.services.proofs.Cases.{refuse-as, serve-as}
+use Rattle.services.proofs.Cases.{kept, clear-wrong, clear-done}
 use borrow.Author.Needs.{needs}
 use Rattle.services.proofs.getting.clear.Statement.{statement}
 use Rattle.services.proofs.getting.clear.Tie as tie
-use Rattle.services.proofs.getting.clear.Reads as reads
-use Rattle.services.proofs.getting.clear.Lts as lts
-use Rattle.events.proofs.done.Reads as done-reads
-use Rattle.events.proofs.refusal.Reads as refusal-reads
-use Rattle.events.proofs.directed.Reads as directed-reads
-use Rattle.ports.proofs.set_number.Reads as set-number-reads
 
--- src/getting.rt:135:9
 directed-requires : tie.Need-directed-requires
 directed-requires c κs = search needs
 
--- src/getting.rt:136:9
 refusal-requires : tie.Need-refusal-requires
 refusal-requires c κs = search needs
 
--- src/getting.rt:136:9
 returns : tie.Need-returns
 returns c =
     let a = c .before .before .before .before .before .args in
-    let n = a .numbers .now in
-    let b = a .bytes .now in
-    let q = portAt n b (a .k) in
-    let r = rowOf (a .row) in
-    let f = callOf (a .f) in
-    refuse-as n b (a .k) (a .doer) 5 (c .refusal .result) (Cases.clear-wrong 0 r f q (sym (c .before .before .directed .ensures) ∙ not-true _ (c .before .if1 .taken))) (c .refusal .ensures)
+    rw (clear-wrong (rowOf (a .row)) (callOf (a .f)) _ (sym (c .before .before .directed .ensures) ∙ not-true _ (c .before .if1 .taken))) (kept (c .refusal .ensures))
 
--- src/getting.rt:138:5
 set-number-requires : tie.Need-set-number-requires
 set-number-requires c κs = search needs
 
--- src/getting.rt:139:5
 done-requires : tie.Need-done-requires
 done-requires c κs = search needs
 
--- src/getting.rt:123:1
 same-length : tie.Need-same-length
 same-length c = search needs
 
--- src/getting.rt:123:1
 returns-2 : tie.Need-returns-2
 returns-2 c =
     let a = c .before .before .before .before .before .before .before .before .before .args in
-    let n = a .numbers .now in
-    let b = a .bytes .now in
-    let q = portAt n b (a .k) in
-    let r = rowOf (a .row) in
-    let f = callOf (a .f) in
-    serve-as (a .doer) (Cases.clear-done 0 r f q (sym (c .before .before .before .before .before .before .directed .ensures) ∙ not-false _ (c .before .before .before .before .before .if1 .left))) (c .done .ensures) (put-none n b (a .k) (c .before .before .before .set-number .ensures))
+    rw (clear-done (rowOf (a .row)) (callOf (a .f)) _ (sym (c .before .before .before .before .before .before .directed .ensures) ∙ not-false _ (c .before .before .before .before .before .if1 .left)))
+    (c .done .ensures, put-none (a .numbers .now) (a .bytes .now) (a .k) (c .before .before .before .set-number .ensures))
 
 pub clear-spec : {M : Type 1} → statement M
 clear-spec =

@@ -1,79 +1,48 @@
 -- `services::getting::get` meets its contract: the direction, then read or receive by code. Assumes nothing.
-use mathlib.Core.Path.{sym, _∙_, subst}
+use mathlib.Core.Path.{sym, _∙_}
 use borrow.Author.Tests.{not-true, not-false}
 use Rattle.tables.specs.Shown.{rowOf}
 use Rattle.events.specs.Shown.{callOf}
-use Rattle.ports.specs.Held
-use Rattle.ports.specs.Held.{portAt}
-use Rattle.services.specs.Served.{Serves}
-use Rattle.services.proofs.Cases
-use Rattle.services.proofs.Cases.{refuse-as}
+use Rattle.services.proofs.Laws.{sized-of}
+use Rattle.services.proofs.Cases.{kept, get-wrong, get-read, get-receive}
 use borrow.Author.Needs.{needs}
 use Rattle.services.proofs.getting.get.Statement.{statement}
 use Rattle.services.proofs.getting.get.Tie as tie
-use Rattle.services.proofs.getting.get.Reads as reads
-use Rattle.services.proofs.getting.get.Lts as lts
-use Rattle.events.proofs.refusal.Reads as refusal-reads
-use Rattle.events.proofs.directed.Reads as directed-reads
-use Rattle.services.proofs.getting.read.Reads as read-reads
-use Rattle.services.proofs.getting.receive.Reads as receive-reads
 
--- src/getting.rt:113:9
 directed-requires : tie.Need-directed-requires
 directed-requires c κs = search needs
 
--- src/getting.rt:114:9
 refusal-requires : tie.Need-refusal-requires
 refusal-requires c κs = search needs
 
--- src/getting.rt:114:9
 returns : tie.Need-returns
 returns c =
     let a = c .before .before .before .before .before .args in
-    let n = a .numbers .now in
-    let b = a .bytes .now in
-    let q = portAt n b (a .k) in
-    let r = rowOf (a .row) in
-    let f = callOf (a .f) in
-    refuse-as n b (a .k) (a .doer) 5 (c .refusal .result) (Cases.get-wrong (a .time) r f q (sym (c .before .before .directed .ensures) ∙ not-true _ (c .before .if1 .taken))) (c .refusal .ensures)
+    rw (get-wrong _ (rowOf (a .row)) (callOf (a .f)) _ (sym (c .before .before .directed .ensures) ∙ not-true _ (c .before .if1 .taken))) (kept (c .refusal .ensures))
 
--- src/getting.rt:117:9
 read-requires : tie.Need-read-requires
 read-requires c κs = search needs
 
--- src/getting.rt:117:9
 same-length : tie.Need-same-length
 same-length c = search needs
 
--- src/getting.rt:117:9
 returns-2 : tie.Need-returns-2
 returns-2 c =
     let a = c .before .before .before .before .before .before .before .before .before .before .args in
-    let n = a .numbers .now in
-    let b = a .bytes .now in
-    let q = portAt n b (a .k) in
-    let r = rowOf (a .row) in
-    let f = callOf (a .f) in
-    subst (Serves n b (c .before .before .read .last .0) b (a .k) (a .doer) (c .before .before .read .result)) (sym (Cases.get-read (a .time) r f q (sym (c .before .before .before .before .before .before .before .directed .ensures) ∙ not-false _ (c .before .before .before .before .before .before .if1 .left)) (c .before .before .before .before .if2 .taken))) (c .before .before .read .ensures)
+    rw (get-read _ (rowOf (a .row)) (callOf (a .f)) _ (sym (c .before .before .before .before .before .before .before .directed .ensures) ∙ not-false _ (c .before .before .before .before .before .before .if1 .left)) (c .before .before .before .before .if2 .taken)) (c .before .before .read .ensures)
 
--- src/getting.rt:119:5
 receive-requires : tie.Need-receive-requires
-receive-requires c κs = search needs
+receive-requires c κs =
+    let s = c .before .before .before .before .before .before .before in
+    (s .pre .0 .lent, sized-of (s .args .numbers .now) (s .args .bytes .now) (s .args .k) (s .args .row) (s .pre .0))
 
--- src/getting.rt:100:1
 same-length-2 : tie.Need-same-length-2
 same-length-2 c = search needs
 
--- src/getting.rt:100:1
 returns-3 : tie.Need-returns-3
 returns-3 c =
     let a = c .before .before .before .before .before .before .before .before .before .before .args in
-    let n = a .numbers .now in
-    let b = a .bytes .now in
-    let q = portAt n b (a .k) in
-    let r = rowOf (a .row) in
-    let f = callOf (a .f) in
-    subst (Serves n b (c .before .before .receive .last .0) b (a .k) (a .doer) (c .before .before .receive .result)) (sym (Cases.get-receive (a .time) r f q (sym (c .before .before .before .before .before .before .before .directed .ensures) ∙ not-false _ (c .before .before .before .before .before .before .if1 .left)) (c .before .before .before .before .if2 .left))) (c .before .before .receive .ensures)
+    rw (get-receive _ (rowOf (a .row)) (callOf (a .f)) _ (sym (c .before .before .before .before .before .before .before .directed .ensures) ∙ not-false _ (c .before .before .before .before .before .before .if1 .left)) (c .before .before .before .before .if2 .left)) (c .before .before .receive .ensures)
 
 pub get-spec : {M : Type 1} → statement M
 get-spec =

@@ -1,7 +1,7 @@
 -- `services::getting::read` meets its contract: 1 where the port is empty, else the message and its validity. Assumes nothing.
 use Prim.Native.Nat.{_≤_, _<_}
 use mathlib.Core.Path.{_≡_, sym, _∙_, ap, subst}
-use lib.ListN.{length, getD, set}
+use lib.ListN.{getD, set}
 use Rattle.model.specs.State.{valid}
 use Rattle.model.specs.Answers.{toldMessage}
 use Rattle.model.specs.Services.{mark}
@@ -13,91 +13,59 @@ use Rattle.stores.proofs.Laws.{oldest-head}
 use Rattle.ports.specs.Held
 use Rattle.ports.specs.Held.{storeAt, portAt}
 use Rattle.ports.proofs.Rows.{row-is}
-use Rattle.ports.proofs.Ports.{count-is, store-queue}
+use Rattle.ports.proofs.Ports.{store-queue}
 use Rattle.ports.proofs.Marks.{put-validity}
-use Rattle.services.proofs.Laws.{sized-of, some-count, arrival-is}
-use Rattle.services.proofs.Cases
-use Rattle.services.proofs.Cases.{refuse-as, serve-as, some-message, no-message}
+use Rattle.services.proofs.Laws.{sized-of, none-held, some-held, oldest-held, some-count, arrival-is}
+use Rattle.services.proofs.Cases.{kept, read-some}
 use borrow.Author.Needs.{needs}
 use Rattle.services.proofs.getting.read.Statement.{statement}
 use Rattle.services.proofs.getting.read.Tie as tie
-use Rattle.services.proofs.getting.read.Reads as reads
-use Rattle.services.proofs.getting.read.Lts as lts
-use Rattle.events.proofs.refusal.Reads as refusal-reads
-use Rattle.ports.proofs.number.Reads as number-reads
-use Rattle.ports.proofs.set_number.Reads as set-number-reads
-use Rattle.ports.proofs.take_store.Reads as take-store-reads
-use Rattle.services.proofs.getting.told_message.Reads as told-message-reads
-use Rattle.services.proofs.getting.validity.Reads as validity-reads
-use Rattle.stores.proofs.oldest.Reads as oldest-reads
-use Rattle.tables.proofs.refresh.Reads as refresh-reads
 
--- src/getting.rt:74:8
 number-requires : tie.Need-number-requires
 number-requires c κs = search needs
 
--- src/getting.rt:75:9
 refusal-requires : tie.Need-refusal-requires
 refusal-requires c κs = search needs
 
--- src/getting.rt:75:9
 same-length : tie.Need-same-length
 same-length c = search needs
 
--- src/getting.rt:75:9
 returns : tie.Need-returns
 returns c =
     let a = c .before .before .before .before .before .before .args in
-    let n = a .numbers .now in
-    let b = a .bytes .now in
-    let q = portAt n b (a .k) in
-    let none = no-message (q .queue) (sym (count-is n b (a .k)) ∙ sym (c .before .before .number .ensures) ∙ c .before .if1 .taken) in
-    refuse-as n b (a .k) (a .doer) 1 (c .refusal .result) (Cases.read-none (rowOf (a .row) .refresh) (a .time) q none) (c .refusal .ensures)
+    rw (none-held (a .numbers .now) (a .bytes .now) (a .k) (c .before .before .number .ensures) (c .before .if1 .taken)) (kept (c .refusal .ensures))
 
--- src/getting.rt:77:28
 take-store-requires : tie.Need-take-store-requires
 take-store-requires c κs = search needs
 
--- src/getting.rt:77:9
 oldest-requires : tie.Need-oldest-requires
 oldest-requires c κs =
     let a = c .before .before .before .before .before .before .before .args in
-    let n = a .numbers .now in
-    let b = a .bytes .now in
-    let q = portAt n b (a .k) in
-    let some = some-count n b (a .k) (λ z. c .before .before .if1 .left (c .before .before .before .number .ensures ∙ count-is n b (a .k) ∙ ap length z)) in
+    let some = some-count (a .numbers .now) (a .bytes .now) (a .k) (some-held (a .numbers .now) (a .bytes .now) (a .k) (c .before .before .before .number .ensures) (c .before .before .if1 .left)) in
     subst (λ (st : Store). (0 < st .count) × (getD (st .lengths) (slotOf st 0) 0 ≤ 64)) (sym (c .take-store .ensures))
-    (some, sized-of n b (a .k) (a .row) (c .before .before .before .before .before .before .before .pre) .short 0 some)
+    (some, sized-of (a .numbers .now) (a .bytes .now) (a .k) (a .row) (c .before .before .before .before .before .before .before .pre) .short 0 some)
 
--- src/getting.rt:80:9
 refresh-requires : tie.Need-refresh-requires
 refresh-requires c κs = search needs
 
--- src/getting.rt:82:9
 number-requires-2 : tie.Need-number-requires-2
 number-requires-2 c κs = search needs
 
--- src/getting.rt:79:9
 validity-requires : tie.Need-validity-requires
 validity-requires c κs = search needs
 
--- src/getting.rt:84:52
 cast-set-number : tie.Need-cast-set-number
 cast-set-number c = search needs
 
--- src/getting.rt:84:5
 set-number-requires : tie.Need-set-number-requires
 set-number-requires c κs = search needs
 
--- src/getting.rt:85:5
 told-message-requires : tie.Need-told-message-requires
 told-message-requires c κs = search needs
 
--- src/getting.rt:63:1
 same-length-2 : tie.Need-same-length-2
 same-length-2 c = search needs
 
--- src/getting.rt:63:1
 returns-2 : tie.Need-returns-2
 returns-2 c =
     let a = c .before .before .before .before .before .before .before .before .before .before .before .before .before .before .before .before .before .args in
@@ -105,8 +73,8 @@ returns-2 c =
     let b = a .bytes .now in
     let q = portAt n b (a .k) in
     let r = rowOf (a .row) in
-    let found = some-message (q .queue) (λ z. c .before .before .before .before .before .before .before .before .before .before .before .before .if1 .left (c .before .before .before .before .before .before .before .before .before .before .before .before .before .number .ensures ∙ count-is n b (a .k) ∙ z)) in
-    let some = some-count n b (a .k) (λ z. c .before .before .before .before .before .before .before .before .before .before .before .before .if1 .left (c .before .before .before .before .before .before .before .before .before .before .before .before .before .number .ensures ∙ count-is n b (a .k) ∙ ap length z)) in
+    let found = oldest-held n b (a .k) (c .before .before .before .before .before .before .before .before .before .before .before .before .before .number .ensures) (c .before .before .before .before .before .before .before .before .before .before .before .before .if1 .left) in
+    let some = some-count n b (a .k) (some-held n b (a .k) (c .before .before .before .before .before .before .before .before .before .before .before .before .before .number .ensures) (c .before .before .before .before .before .before .before .before .before .before .before .before .if1 .left)) in
     let held = store-queue n b (a .k) ∙ found .2 in
     let v : c .before .before .before .before .before .validity .result ≡ mark (valid (r .refresh) (a .time) (q .arrival)) =
     c .before .before .before .before .before .validity .ensures
@@ -114,9 +82,8 @@ returns-2 c =
     ∙ ap (λ x. mark (valid (r .refresh) (a .time) x)) (c .before .before .before .before .before .before .number2 .ensures ∙ sym (arrival-is n b (a .k)))
     in
     let l = c .before .before .before .before .before .before .before .before .before .oldest .ensures ∙ ap oldestOf (c .before .before .before .before .before .before .before .before .before .before .take-store .ensures) ∙ oldest-head (storeAt n b (a .k)) some (found .0) (found .1) held in
-    serve-as (a .doer) (Cases.read-some (r .refresh) (a .time) q (found .0) (found .1) (found .2))
-    (c .told-message .ensures (found .0) l ∙ ap (λ x. toldAs (a .doer) (toldMessage (found .0) x)) v)
-    (put-validity n b (a .k) (mark (valid (r .refresh) (a .time) (q .arrival))) (row-is (c .before .before .before .set-number .ensures) (ap (λ x. set (Held.rowOf n (a .k)) 1 x) v)))
+    rw (read-some (r .refresh) (a .time) q (found .0) (found .1) (found .2))
+    (c .told-message .ensures (found .0) l ∙ ap (λ x. toldAs (a .doer) (toldMessage (found .0) x)) v, put-validity n b (a .k) (mark (valid (r .refresh) (a .time) (q .arrival))) (row-is (c .before .before .before .set-number .ensures) (ap (λ x. set (Held.rowOf n (a .k)) 1 x) v)))
 
 pub read-spec : {M : Type 1} → statement M
 read-spec =

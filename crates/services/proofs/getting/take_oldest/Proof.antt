@@ -3,7 +3,6 @@ use Prim.Native.Nat.{_≤_, _<_}
 use mathlib.Core.Path.{sym, _∙_, ap, subst}
 use lib.ListN.{getD, set}
 use Rattle.model.specs.State.{withQueue}
-use Rattle.tables.specs.Shown.{rowOf}
 use Rattle.stores.specs.declared.Store.{Store}
 use Rattle.stores.specs.Ring.{slotOf, dropped, oldestOf}
 use Rattle.stores.proofs.Laws.{oldest-head}
@@ -12,49 +11,35 @@ use Rattle.ports.specs.Held.{storeAt, portAt}
 use Rattle.ports.proofs.Rows.{row-is}
 use Rattle.ports.proofs.Ports.{put-is, store-queue}
 use Rattle.ports.proofs.Marks.{put-dropped}
-use Rattle.services.proofs.Laws.{sized-of, some-count, rest-is}
-use Rattle.services.proofs.Cases
+use Rattle.services.proofs.Laws.{some-count, rest-is}
 use borrow.Author.Needs.{needs}
 use Rattle.services.proofs.getting.take_oldest.Statement.{statement}
 use Rattle.services.proofs.getting.take_oldest.Tie as tie
-use Rattle.services.proofs.getting.take_oldest.Reads as reads
-use Rattle.services.proofs.getting.take_oldest.Lts as lts
-use Rattle.ports.proofs.set_number.Reads as set-number-reads
-use Rattle.ports.proofs.take_store.Reads as take-store-reads
-use Rattle.stores.proofs.drop_oldest.Reads as drop-oldest-reads
-use Rattle.stores.proofs.oldest.Reads as oldest-reads
 
--- src/getting.rt:55:9
 take-store-requires : tie.Need-take-store-requires
 take-store-requires c κs = search needs
 
--- src/getting.rt:56:9
 drop-oldest-requires : tie.Need-drop-oldest-requires
 drop-oldest-requires c κs =
     let a = c .before .before .before .before .args in
     subst (λ (st : Store). 0 < st .count) (sym (c .take-store .ensures)) (some-count (a .numbers .now) (a .bytes .now) (a .k) (c .before .before .before .before .pre .1))
 
--- src/getting.rt:57:5
 set-number-requires : tie.Need-set-number-requires
 set-number-requires c κs = search needs
 
--- src/getting.rt:58:5
 set-number-requires-2 : tie.Need-set-number-requires-2
 set-number-requires-2 c κs = search needs
 
--- src/getting.rt:59:5
 oldest-requires : tie.Need-oldest-requires
 oldest-requires c κs =
     let a = c .before .before .before .before .before .before .before .before .before .before .before .before .before .args in
     let some = some-count (a .numbers .now) (a .bytes .now) (a .k) (c .before .before .before .before .before .before .before .before .before .before .before .before .before .pre .1) in
     subst (λ (st : Store). (0 < st .count) × (getD (st .lengths) (slotOf st 0) 0 ≤ 64)) (sym (c .before .before .before .before .before .before .before .before .before .take-store .ensures))
-    (some, sized-of (a .numbers .now) (a .bytes .now) (a .k) (a .row) (c .before .before .before .before .before .before .before .before .before .before .before .before .before .pre .0) .short 0 some)
+    (some, c .before .before .before .before .before .before .before .before .before .before .before .before .before .pre .0 .1 .short 0 some)
 
--- src/getting.rt:50:1
 same-length : tie.Need-same-length
 same-length c = search needs
 
--- src/getting.rt:50:1
 returns : tie.Need-returns
 returns c = λ m rest e.
     let a = c .before .before .before .before .before .before .before .before .before .before .before .before .before .before .args in

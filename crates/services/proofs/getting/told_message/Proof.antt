@@ -4,10 +4,7 @@ use Rattle.services.proofs.Laws.{handing}
 use Rattle.events.specs.Shown.{toldAs}
 use Rattle.services.proofs.getting.told_message.Statement.{statement}
 use Rattle.services.proofs.getting.told_message.Tie as tie
-use Rattle.services.proofs.getting.told_message.Reads as reads
-use Rattle.services.proofs.getting.told_message.Lts as lts
 
--- src/getting.rt:21:1
 returns : tie.Need-returns
 unfolding toldAs
 returns c = λ m e. ap (handing (c .before .args .doer) (c .before .args .validity)) e

@@ -6,19 +6,13 @@ use Rattle.model.specs.Services.{mark}
 use borrow.Author.Needs.{needs}
 use Rattle.services.proofs.getting.validity.Statement.{statement}
 use Rattle.services.proofs.getting.validity.Tie as tie
-use Rattle.services.proofs.getting.validity.Reads as reads
-use Rattle.services.proofs.getting.validity.Lts as lts
-use Rattle.events.proofs.age.Reads as age-reads
 
--- src/getting.rt:42:8
 age-requires : tie.Need-age-requires
 age-requires c κs = search needs
 
--- src/getting.rt:39:1
 returns : tie.Need-returns
 returns c = sym (ap mark (ap (λ x. leb x (c .before .before .args .refresh)) (sym (c .before .age .ensures)) ∙ le-leb (c .before .age .result) (c .before .before .args .refresh) (c .if1 .taken)))
 
--- src/getting.rt:39:1
 returns-2 : tie.Need-returns-2
 returns-2 c = sym (ap mark (ap (λ x. leb x (c .before .before .args .refresh)) (sym (c .before .age .ensures)) ∙ lt-leb (c .before .age .result) (c .before .before .args .refresh) (c .if1 .left)))
 

@@ -11,25 +11,16 @@ use Rattle.services.proofs.Laws.{offer-full, offer-room, taken}
 use borrow.Author.Needs.{needs}
 use Rattle.services.proofs.putting.offer.Statement.{statement}
 use Rattle.services.proofs.putting.offer.Tie as tie
-use Rattle.services.proofs.putting.offer.Reads as reads
-use Rattle.services.proofs.putting.offer.Lts as lts
-use Rattle.ports.proofs.number.Reads as number-reads
-use Rattle.ports.proofs.put_store.Reads as put-store-reads
-use Rattle.ports.proofs.take_store.Reads as take-store-reads
-use Rattle.stores.proofs.append.Reads as append-reads
 
 whole-letter : (c : tie.Start) → length (c .args .l .bytes) ≡ 64
 whole-letter c = search needs
 
--- src/putting.rt:26:17
 number-requires : tie.Need-number-requires
 number-requires c κs = search needs
 
--- src/putting.rt:27:9
 same-length : tie.Need-same-length
 same-length c = search needs
 
--- src/putting.rt:27:9
 returns : tie.Need-returns
 returns c =
     let a = c .before .before .before .before .before .args in
@@ -39,29 +30,23 @@ returns c =
     let full : a .depth ≤ length (q .queue) = omega (arith, held, read, c .if1 .taken) in
     put-is (put-kept (a .numbers .now) (a .bytes .now) (a .k)) (ap (withQueue q) (sym (offer-full (a .depth) (q .queue) (written (a .l)) full)))
 
--- src/putting.rt:29:9
 take-store-requires : tie.Need-take-store-requires
 take-store-requires c κs = search needs
 
--- src/putting.rt:30:41
 append-requires : tie.Need-append-requires
 append-requires c κs =
     let a = c .before .before .before .before .before .before .before .before .before .before .args in
     omega (arith, c .before .before .before .before .before .before .before .before .before .before .pre .1 .0, c .before .before .before .before .before .before .number .ensures, c .before .before .before .before .before .if1 .left, ap (λ st. st .count) (c .before .before .take-store .ensures), store-count (a .numbers .now) (a .bytes .now) (a .k))
 
--- src/putting.rt:30:5
 put-store-requires : tie.Need-put-store-requires
 put-store-requires c κs = search needs
 
--- src/putting.rt:21:1
 same-length-2 : tie.Need-same-length-2
 same-length-2 c = search needs
 
--- src/putting.rt:21:1
 same-length-3 : tie.Need-same-length-3
 same-length-3 c = search needs
 
--- src/putting.rt:21:1
 returns-2 : tie.Need-returns-2
 returns-2 c =
     let a = c .before .before .before .before .before .before .before .before .before .before .before .before .before .before .before .before .args in

@@ -12,90 +12,57 @@ use Rattle.stores.specs.Ring.{written}
 use Rattle.ports.specs.Held.{portAt}
 use Rattle.ports.proofs.Ports.{put-is}
 use Rattle.services.proofs.Laws.{few-written, written-back}
-use Rattle.services.proofs.Cases.{refuse-as, serve-as, put-empty, put-long, put-wrong, put-stored}
+use Rattle.services.proofs.Cases.{kept, put-empty, put-long, put-wrong, put-stored}
 use borrow.Author.Needs.{needs}
 use Rattle.services.proofs.putting.put.Statement.{statement}
 use Rattle.services.proofs.putting.put.Tie as tie
-use Rattle.services.proofs.putting.put.Reads as reads
-use Rattle.services.proofs.putting.put.Lts as lts
-use Rattle.events.proofs.done.Reads as done-reads
-use Rattle.events.proofs.refusal.Reads as refusal-reads
-use Rattle.events.proofs.directed.Reads as directed-reads
-use Rattle.services.proofs.putting.store.Reads as store-reads
-use Rattle.stores.proofs.letter_of.Reads as letter-of-reads
 
--- src/putting.rt:65:9
 refusal-requires : tie.Need-refusal-requires
 refusal-requires c κs = search needs
 
--- src/putting.rt:65:9
 returns : tie.Need-returns
 returns c =
     let a = c .before .before .before .before .before .before .args in
-    let r = rowOf (a .row) in
-    let e = a .event .now in
-    let f = callOf (a .f) in
-    let q = portAt (a .numbers .now) (a .bytes .now) (a .k) in
-    refuse-as (a .numbers .now) (a .bytes .now) (a .k) (a .doer) 3 (c .refusal .result) (put-empty r e f q (c .before .if1 .taken)) (c .refusal .ensures)
+    rw (put-empty _ _ (callOf (a .f)) _ (c .before .if1 .taken)) (kept (c .refusal .ensures))
 
--- src/putting.rt:68:9
 refusal-requires-2 : tie.Need-refusal-requires-2
 refusal-requires-2 c κs = search needs
 
--- src/putting.rt:68:9
 returns-2 : tie.Need-returns-2
 returns-2 c =
     let a = c .before .before .before .before .before .before .before .before .before .args in
-    let r = rowOf (a .row) in
-    let e = a .event .now in
-    let f = callOf (a .f) in
-    let q = portAt (a .numbers .now) (a .bytes .now) (a .k) in
-    refuse-as (a .numbers .now) (a .bytes .now) (a .k) (a .doer) 4 (c .refusal2 .result) (put-long r e f q (c .before .before .before .before .if1 .left) (c .before .if2 .taken)) (c .refusal2 .ensures)
+    rw (put-long (rowOf (a .row)) _ (callOf (a .f)) _ (c .before .before .before .before .if1 .left) (c .before .if2 .taken)) (kept (c .refusal2 .ensures))
 
--- src/putting.rt:70:9
 directed-requires : tie.Need-directed-requires
 directed-requires c κs = search needs
 
--- src/putting.rt:71:9
 refusal-requires-3 : tie.Need-refusal-requires-3
 refusal-requires-3 c κs = search needs
 
--- src/putting.rt:71:9
 returns-3 : tie.Need-returns-3
 returns-3 c =
     let a = c .before .before .before .before .before .before .before .before .before .before .before .args in
-    let r = rowOf (a .row) in
-    let e = a .event .now in
-    let f = callOf (a .f) in
-    let q = portAt (a .numbers .now) (a .bytes .now) (a .k) in
-    refuse-as (a .numbers .now) (a .bytes .now) (a .k) (a .doer) 5 (c .refusal3 .result)
-    (put-wrong r e f q (c .before .before .before .before .before .before .if1 .left) (c .before .before .before .if2 .left) (sym (c .before .before .directed .ensures) ∙ not-true _ (c .before .if3 .taken))) (c .refusal3 .ensures)
+    rw (put-wrong (rowOf (a .row)) _ (callOf (a .f)) _ (c .before .before .before .before .before .before .if1 .left) (c .before .before .before .if2 .left) (sym (c .before .before .directed .ensures) ∙ not-true _ (c .before .if3 .taken))) (kept (c .refusal3 .ensures))
 
--- src/putting.rt:73:9
 letter-of-requires : tie.Need-letter-of-requires
 letter-of-requires c κs =
     let f = c .before .before .before .before .before .before .before .before .before .before .pre .0 in
     (omega (arith, c .before .before .if2 .left, f .ranges .fewBytes), omega (arith, c .before .before .if2 .left, f .ranges .fewBytes, c .before .before .before .before .before .before .before .before .before .before .pre .1 .0))
 
--- src/putting.rt:74:5
 store-requires : tie.Need-store-requires
 store-requires c κs =
     let few = c .before .before .before .before .before .before .before .before .before .before .before .before .before .pre .0 .ranges .fewBytes in
     (c .before .before .before .before .before .before .before .before .before .before .before .before .before .pre .0, subst (λ (l : Letter). l .size ≤ 64) (sym (c .before .before .letter-of .ensures)) (few-written (c .before .before .before .before .before .before .before .before .before .before .before .before .before .args .event .now) (c .before .before .before .before .before .before .before .before .before .before .before .before .before .args .f .size) (omega (arith, c .before .before .before .before .before .if2 .left, few))))
 
--- src/putting.rt:75:5
 done-requires : tie.Need-done-requires
 done-requires c κs = search needs
 
--- src/putting.rt:51:1
 same-length : tie.Need-same-length
 same-length c = search needs
 
--- src/putting.rt:51:1
 same-length-2 : tie.Need-same-length-2
 same-length-2 c = search needs
 
--- src/putting.rt:51:1
 returns-4 : tie.Need-returns-4
 returns-4 c =
     let a = c .before .before .before .before .before .before .before .before .before .before .before .before .before .before .before .before .before .before .before .args in
@@ -105,8 +72,7 @@ returns-4 c =
     let q = portAt (a .numbers .now) (a .bytes .now) (a .k) in
     let few = c .before .before .before .before .before .before .before .before .before .before .before .before .before .before .before .before .before .before .before .pre .0 .ranges .fewBytes in
     let long : a .f .size ≤ 64 = omega (arith, c .before .before .before .before .before .before .before .before .before .before .before .if2 .left, few) in
-    serve-as (a .doer) (put-stored r e f q (c .before .before .before .before .before .before .before .before .before .before .before .before .before .before .if1 .left) (c .before .before .before .before .before .before .before .before .before .before .before .if2 .left) (sym (c .before .before .before .before .before .before .before .before .before .before .directed .ensures) ∙ not-false _ (c .before .before .before .before .before .before .before .before .before .if3 .left))) (c .done .ensures)
-    (put-is (c .before .before .before .before .before .store .ensures) (ap (λ m. withQueue q (stored r (q .queue) m)) (ap written (c .before .before .before .before .before .before .before .before .letter-of .ensures) ∙ written-back e (a .f .size) long)))
+    rw (put-stored r e f q (c .before .before .before .before .before .before .before .before .before .before .before .before .before .before .if1 .left) (c .before .before .before .before .before .before .before .before .before .before .before .if2 .left) (sym (c .before .before .before .before .before .before .before .before .before .before .directed .ensures) ∙ not-false _ (c .before .before .before .before .before .before .before .before .before .if3 .left))) (c .done .ensures, put-is (c .before .before .before .before .before .store .ensures) (ap (λ m. withQueue q (stored r (q .queue) m)) (ap written (c .before .before .before .before .before .before .before .before .letter-of .ensures) ∙ written-back e (a .f .size) long)))
 
 pub put-spec : {M : Type 1} → statement M
 put-spec =

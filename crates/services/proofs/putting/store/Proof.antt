@@ -12,53 +12,38 @@ use Rattle.services.proofs.Laws.{alone, stored-sampling, stored-queuing
 use borrow.Author.Needs.{needs}
 use Rattle.services.proofs.putting.store.Statement.{statement}
 use Rattle.services.proofs.putting.store.Tie as tie
-use Rattle.services.proofs.putting.store.Reads as reads
-use Rattle.services.proofs.putting.store.Lts as lts
-use Rattle.ports.proofs.put_store.Reads as put-store-reads
-use Rattle.services.proofs.putting.offer.Reads as offer-reads
-use Rattle.stores.proofs.append.Reads as append-reads
-use Rattle.stores.proofs.empty.Reads as empty-reads
 
 whole-letter : (c : tie.Start) → length (c .args .l .bytes) ≡ 64
 whole-letter c = search needs
 
--- src/putting.rt:42:30
 enum-told : tie.Need-enum-told
 enum-told c = search needs
 
--- src/putting.rt:42:64
 empty-requires : tie.Need-empty-requires
 empty-requires c κs = search needs
 
--- src/putting.rt:42:49
 append-requires : tie.Need-append-requires
 unfolding noMessages
 append-requires c κs = subst (λ (st : Store). st .count < 8) (sym (c .empty .ensures)) (omega arith)
 
--- src/putting.rt:42:13
 put-store-requires : tie.Need-put-store-requires
 put-store-requires c κs = search needs
 
--- src/putting.rt:44:27
 enum-known-transfer : tie.Need-enum-known-transfer
 enum-known-transfer c = search needs
 
--- src/putting.rt:45:13
 offer-requires : tie.Need-offer-requires
 offer-requires c κs =
     let told = c .before .before .before .transfer .given in
     let f = c .before .before .before .before .before .before .before .pre .0 in
     (f .lent, (depth-few (c .before .before .before .before .before .before .before .args .row) (told .0 .0) (f .ranges) (told .1), c .before .before .before .before .before .before .before .pre .1))
 
--- src/putting.rt:34:1
 same-length : tie.Need-same-length
 same-length c = search needs
 
--- src/putting.rt:34:1
 same-length-2 : tie.Need-same-length-2
 same-length-2 c = search needs
 
--- src/putting.rt:34:1
 returns : tie.Need-returns
 returns c =
     let a = c .before .before .before .before .before .before .before .before .before .before .before .before .before .args in
@@ -70,15 +55,12 @@ returns c =
     ∙ alone (a .l) (whole-letter (c .before .before .before .before .before .before .before .before .before .before .before .before .before)) (c .before .before .before .before .before .before .before .before .before .before .before .before .before .pre .1)
     ∙ sym (stored-sampling (a .row) (told .0 .0) (q .queue) (written (a .l)) (told .1))))
 
--- src/putting.rt:34:1
 same-length-3 : tie.Need-same-length-3
 same-length-3 c = search needs
 
--- src/putting.rt:34:1
 same-length-4 : tie.Need-same-length-4
 same-length-4 c = search needs
 
--- src/putting.rt:34:1
 returns-2 : tie.Need-returns-2
 returns-2 c =
     let a = c .before .before .before .before .before .before .before .before .before .before .before .before .args in

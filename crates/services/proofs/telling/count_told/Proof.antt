@@ -2,14 +2,10 @@
 use borrow.Author.Tests.{eq-eqb, ne-eqb}
 use Rattle.services.proofs.telling.count_told.Statement.{statement}
 use Rattle.services.proofs.telling.count_told.Tie as tie
-use Rattle.services.proofs.telling.count_told.Reads as reads
-use Rattle.services.proofs.telling.count_told.Lts as lts
 
--- src/telling.rt:22:1
 returns : tie.Need-returns
 returns c = rw (eq-eqb (c .before .args .direction) 0 (c .if1 .taken))
 
--- src/telling.rt:22:1
 returns-2 : tie.Need-returns-2
 returns-2 c = rw (ne-eqb (c .before .args .direction) 0 (c .if1 .left))
 

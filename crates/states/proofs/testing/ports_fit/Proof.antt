@@ -12,7 +12,7 @@ use Rattle.model.proofs.Rows.{RowRanges}
 use Rattle.tables.specs.Shown as Shown
 use Rattle.ports.specs.Held.{rowOf}
 use Rattle.states.specs.Tested.{numbersFit, portFits, eachFits}
-use Rattle.states.proofs.Judged.{row-read}
+use Rattle.services.proofs.Holding.{row-read}
 use Rattle.states.proofs.testing.ports_fit.Statement.{statement}
 use Rattle.states.proofs.testing.ports_fit.Tie as tie
 
@@ -32,7 +32,6 @@ loop-holds c =
 add-port-row : tie.Need-add-port-row Inv-loop μ-loop
 add-port-row c =
     let s = c .before .before .before .before .before .before in
-    let l = c .before .before .before .loop in
     let t = s .args .t .now in
     let laid = s .pre .0 .1 in
     let a = accepted t (s .pre .0 .0) in
@@ -41,7 +40,6 @@ add-port-row c =
 port-row-requires : tie.Need-port-row-requires Inv-loop μ-loop
 port-row-requires c κs =
     let s = c .before .before .before .before .before .before in
-    let l = c .before .before .before .loop in
     let t = s .args .t .now in
     let laid = s .pre .0 .1 in
     let a = accepted t (s .pre .0 .0) in

@@ -8,9 +8,6 @@ use Rattle.steps.specs.Stepped.{RunsTo}
 use Rattle.steps.proofs.OneMore.{none-yet, one-more}
 use Rattle.steps.proofs.runs.run_events.Statement.{statement}
 use Rattle.steps.proofs.runs.run_events.Tie as tie
-use Rattle.steps.proofs.runs.run_events.Reads as reads
-use Rattle.steps.proofs.runs.run_events.Lts as lts
-use Rattle.steps.proofs.runs.turn_at.Reads as turn-at-reads
 
 abbrev Inv-loop : tie.InvT-loop
 Inv-loop t lay modes₀ numbers₀ bytes₀ events answers₀ n present₀ i₀ modes numbers bytes answers present i =
@@ -28,27 +25,21 @@ abbrev μ-loop : tie.MeasureT-loop
 few-events : (c : tie.Start Inv-loop μ-loop) → length (c .args .events .now) < 2 ^ 64
 few-events c = search needs
 
--- src/runs.rt:54:5
 loop-holds : tie.Need-loop-holds Inv-loop μ-loop
 loop-holds c = (refl, omega arith, refl, refl, refl, refl, none-yet (c .before .before .before .before .before .before .args .events .now) (c .before .before .before .before .before .before .args .answers .now) (c .before .before .before .before .before .before .pre .0))
 
--- src/runs.rt:55:9
 turn-at-requires : tie.Need-turn-at-requires Inv-loop μ-loop
 turn-at-requires c κs =
     let s = c .before .before .before .before .before .before .before .before .before .before .before .before in
     let l = c .before .before .before .before .before .loop in
-    let es = s .args .events .now in
     (l .inv .6 .ready, (omega (arith, l .inv .0, c .before .before .before .before .loop-test .taken), omega (arith, l .inv .0, l .inv .5, c .before .before .before .before .loop-test .taken, s .pre .1)))
 
--- src/runs.rt:56:13
 add-i : tie.Need-add-i Inv-loop μ-loop
 add-i c = record { fits = omega (arith, few-events (c .before .before .before .before .before .before .before .before .before .before .before .before .before .before .before .before .before .before .before .before .before), c .before .before .before .before .before .before .before .before .before .before .before .before .before .before .loop .inv .0, c .before .before .before .before .before .before .before .before .before .before .before .before .before .loop-test .taken) }
 
--- src/runs.rt:54:5
 loop-less : tie.Need-loop-less Inv-loop μ-loop
 loop-less c = search needs
 
--- src/runs.rt:54:5
 loop-again : tie.Need-loop-again Inv-loop μ-loop
 loop-again c =
     let s = c .before .before .before .before .before .before .before .before .before .before .before .before .before .before .before .before .before .before .before .before .before in
@@ -67,23 +58,18 @@ loop-again c =
           (l .inv .6) (r .ensures) (r .kept .1 .1 .1 .1 .0) (r .kept .1 .1 .1 .1 .1 .0),
     )
 
--- src/runs.rt:37:1
 same-length : tie.Need-same-length Inv-loop μ-loop
 same-length c = c .before .loop .inv .2
 
--- src/runs.rt:37:1
 same-length-2 : tie.Need-same-length-2 Inv-loop μ-loop
 same-length-2 c = c .before .loop .inv .3
 
--- src/runs.rt:37:1
 same-length-3 : tie.Need-same-length-3 Inv-loop μ-loop
 same-length-3 c = c .before .loop .inv .4
 
--- src/runs.rt:37:1
 same-length-4 : tie.Need-same-length-4 Inv-loop μ-loop
 same-length-4 c = c .before .loop .inv .5
 
--- src/runs.rt:37:1
 returns : tie.Need-returns Inv-loop μ-loop
 returns c =
     let s = c .before .before .before .before .before .before .before .before in

@@ -14,68 +14,49 @@ use Rattle.steps.proofs.Bytes.{bytes-replied}
 use borrow.Author.Needs.{needs}
 use Rattle.steps.proofs.runs.turn_at.Statement.{statement}
 use Rattle.steps.proofs.runs.turn_at.Tie as tie
-use Rattle.steps.proofs.runs.turn_at.Reads as reads
-use Rattle.steps.proofs.runs.turn_at.Lts as lts
-use Rattle.events.proofs.lay_answer.Reads as lay-answer-reads
-use Rattle.steps.proofs.turns.turn.Reads as turn-reads
 
--- src/runs.rt:28:14
 mul-at : tie.Need-mul-at
 mul-at c = search needs
 
--- src/runs.rt:29:15
 add-end : tie.Need-add-end
 add-end c = search needs
 
--- src/runs.rt:30:61
 sub-turn : tie.Need-sub-turn
 sub-turn c = search needs
 
--- src/runs.rt:30:61
 part-turn-start : tie.Need-part-turn-start
 part-turn-start c = search needs
 
--- src/runs.rt:30:61
 part-turn-end : tie.Need-part-turn-end
 part-turn-end c = search needs
 
--- src/runs.rt:30:9
 turn-requires : tie.Need-turn-requires
 turn-requires c κs = search needs
 
--- src/runs.rt:32:32
 sub-lay-answer : tie.Need-sub-lay-answer
 sub-lay-answer c = search needs
 
--- src/runs.rt:32:32
 part-lay-answer-start : tie.Need-part-lay-answer-start
 part-lay-answer-start c = search needs
 
--- src/runs.rt:32:32
 part-lay-answer-end : tie.Need-part-lay-answer-end
 part-lay-answer-end c = search needs
 
--- src/runs.rt:32:5
 lay-answer-requires : tie.Need-lay-answer-requires
 lay-answer-requires c κs = search needs
 
--- src/runs.rt:13:1
 same-length : tie.Need-same-length
 same-length c = search needs
 
--- src/runs.rt:13:1
 same-length-2 : tie.Need-same-length-2
 same-length-2 c = search needs
 
--- src/runs.rt:13:1
 same-length-3 : tie.Need-same-length-3
 same-length-3 c = search needs
 
--- src/runs.rt:13:1
 same-length-4 : tie.Need-same-length-4
 same-length-4 c = search needs
 
--- src/runs.rt:13:1
 returns : tie.Need-returns
 unfolding answer
 returns c =

@@ -1,110 +1,54 @@
 -- `steps::turns::move_turn` meets its contract: nobody in a partition's window or where there is no such channel, else the channel. Assumes nothing.
-use mathlib.Core.Path.{refl, sym, _∙_}
+use mathlib.Core.Path.{sym, _∙_}
 use native.Mathlib.Omega.{arith}
 use borrow.Author.Needs.{needs}
-use Rattle.model.specs.State as model
-use Rattle.model.specs.Events as events
 use Rattle.model.proofs.Accepted.{accepted}
-use Rattle.services.specs.Did.{shown}
 use Rattle.calls.proofs.Laws.{refused-does}
 use Rattle.steps.specs.Stepped.{clockOf}
 use Rattle.steps.proofs.Laws
 use borrow.Author.Needs.{needs}
 use Rattle.steps.proofs.turns.move_turn.Statement.{statement}
 use Rattle.steps.proofs.turns.move_turn.Tie as tie
-use Rattle.steps.proofs.turns.move_turn.Reads as reads
-use Rattle.steps.proofs.turns.move_turn.Lts as lts
-use Rattle.events.proofs.refusal.Reads as refusal-reads
-use Rattle.moves.proofs.transmit.Reads as transmit-reads
-use Rattle.tables.proofs.window_partition.Reads as window-partition-reads
 
--- src/turns.rt:85:9
 window-partition-requires : tie.Need-window-partition-requires
 window-partition-requires c κs =
     let s = c .before .before .before .before .before in
     let t = s .args .t .now in
-    let ms = s .args .modes .now in
-    let n = s .args .numbers .now in
-    let b = s .args .bytes .now in
-    let e = s .args .event .now in
-    let k = s .args .clock in
     let h = s .pre .0 in
     let a = accepted t (h .held .accepted) in
-    let st = shown t (clockOf k) ms n b in
     omega (arith, h .ranged .inWindow, a .portsAfter, a .channelsAfter)
 
--- src/turns.rt:87:9
 refusal-requires : tie.Need-refusal-requires
 refusal-requires c κs = search needs
 
--- src/turns.rt:87:9
 returns : tie.Need-returns
 returns c =
     let s = c .before .before .before .before .before .before .before .before in
-    let t = s .args .t .now in
-    let ms = s .args .modes .now in
-    let n = s .args .numbers .now in
-    let b = s .args .bytes .now in
-    let e = s .args .event .now in
-    let k = s .args .clock in
-    let h = s .pre .0 in
-    let a = accepted t (h .held .accepted) in
-    let st = shown t (clockOf k) ms n b in
-    let at = Laws.at-partition-move t st e (s .args .c) (s .pre .1) (λ z. c .before .if1 .taken (c .before .before .window-partition .ensures ∙ z)) in
-    let does = refused-does st 255 17 (c .refusal .result) refl (c .refusal .ensures) in
-    record { answered = Laws.act-answers t st e at does; left = Laws.act-leaves t st e at does }
+    Laws.acts (Laws.at-partition-move (s .args .t .now) _ (s .args .event .now) (s .args .c) (s .pre .1) (λ z. c .before .if1 .taken (c .before .before .window-partition .ensures ∙ z))) (refused-does (c .refusal .ensures))
 
--- src/turns.rt:91:9
 refusal-requires-2 : tie.Need-refusal-requires-2
 refusal-requires-2 c κs = search needs
 
--- src/turns.rt:91:9
 returns-2 : tie.Need-returns-2
 returns-2 c =
     let s = c .before .before .before .before .before .before .before .before .before .before in
-    let t = s .args .t .now in
-    let ms = s .args .modes .now in
-    let n = s .args .numbers .now in
-    let b = s .args .bytes .now in
-    let e = s .args .event .now in
-    let k = s .args .clock in
-    let h = s .pre .0 in
-    let a = accepted t (h .held .accepted) in
-    let st = shown t (clockOf k) ms n b in
-    let at = Laws.at-no-channel t st e (s .args .c) (s .pre .1) (sym (c .before .before .before .before .window-partition .ensures) ∙ c .before .before .before .if1 .left) (omega (arith, h .held .laid .channelled, c .before .if2 .taken)) in
-    let does = refused-does st 255 18 (c .refusal2 .result) refl (c .refusal2 .ensures) in
-    record { answered = Laws.act-answers t st e at does; left = Laws.act-leaves t st e at does }
+    Laws.acts (Laws.at-no-channel (s .args .t .now) _ (s .args .event .now) (s .args .c) (s .pre .1) (sym (c .before .before .before .before .window-partition .ensures) ∙ c .before .before .before .if1 .left) (omega (arith, s .pre .0 .held .laid .channelled, c .before .if2 .taken))) (refused-does (c .refusal2 .ensures))
 
--- src/turns.rt:93:5
 transmit-requires : tie.Need-transmit-requires
 transmit-requires c κs =
     let s = c .before .before .before .before .before .before .before .before .before .before .before in
     (s .pre .0 .held, c .before .before .if2 .left)
 
--- src/turns.rt:71:1
 same-length : tie.Need-same-length
 same-length c = search needs
 
--- src/turns.rt:71:1
 same-length-2 : tie.Need-same-length-2
 same-length-2 c = search needs
 
--- src/turns.rt:71:1
 returns-3 : tie.Need-returns-3
 returns-3 c =
     let s = c .before .before .before .before .before .before .before .before .before .before .before .before .before .before .before .before in
-    let t = s .args .t .now in
-    let ms = s .args .modes .now in
-    let n = s .args .numbers .now in
-    let b = s .args .bytes .now in
-    let e = s .args .event .now in
-    let k = s .args .clock in
-    let h = s .pre .0 in
-    let a = accepted t (h .held .accepted) in
-    let st = shown t (clockOf k) ms n b in
-    let at = Laws.at-move t st e (s .args .c) (s .pre .1) (sym (c .before .before .before .before .before .before .before .before .before .before .window-partition .ensures) ∙ c .before .before .before .before .before .before .before .before .before .if1 .left) (omega (arith, h .held .laid .channelled, c .before .before .before .before .before .before .before .if2 .left)) in
-    let does = c .before .before .before .before .transmit .ensures (clockOf k) ms in
-    record { answered = Laws.act-answers t st e at does; left = Laws.act-leaves t st e at does }
+    Laws.acts (Laws.at-move (s .args .t .now) _ (s .args .event .now) (s .args .c) (s .pre .1) (sym (c .before .before .before .before .before .before .before .before .before .before .window-partition .ensures) ∙ c .before .before .before .before .before .before .before .before .before .if1 .left) (omega (arith, s .pre .0 .held .laid .channelled, c .before .before .before .before .before .before .before .if2 .left))) (c .before .before .before .before .transmit .ensures (clockOf (s .args .clock)) (s .args .modes .now))
 
 pub move-turn-spec : {M : Type 1} → statement M
 move-turn-spec =

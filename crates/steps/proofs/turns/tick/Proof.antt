@@ -6,41 +6,29 @@ use native.Mathlib.Numerals.{add-one}
 use borrow.Author.Needs.{needs}
 use Rattle.model.specs.Tables.{windows}
 use Rattle.model.specs.State.{wrap}
-use Rattle.model.specs.State as model
-use Rattle.model.specs.Events as events
 use Rattle.model.proofs.Accepted.{accepted}
 use Rattle.steps.specs.Stepped.{clockOf}
 use Rattle.steps.proofs.Laws
 use borrow.Author.Needs.{needs}
 use Rattle.steps.proofs.turns.tick.Statement.{statement}
 use Rattle.steps.proofs.turns.tick.Tie as tie
-use Rattle.steps.proofs.turns.tick.Reads as reads
-use Rattle.steps.proofs.turns.tick.Lts as lts
-use Rattle.events.proofs.later.Reads as later-reads
-use Rattle.tables.proofs.window_length.Reads as window-length-reads
 
--- src/turns.rt:38:42
 window-length-requires : tie.Need-window-length-requires
 window-length-requires c κs =
     let s = c .before in
     let t = s .args .t .now in
-    let k = s .args .clock in
     let a = accepted t (s .pre .0) in
     omega (arith, s .pre .2, a .portsAfter, a .channelsAfter)
 
--- src/turns.rt:38:9
 later-requires : tie.Need-later-requires
 later-requires c κs = search needs
 
--- src/turns.rt:39:8
 add-if1 : tie.Need-add-if1
 add-if1 c = search needs
 
--- src/turns.rt:41:21
 add-t9 : tie.Need-add-t9
 add-t9 c = search needs
 
--- src/turns.rt:40:9
 returns : tie.Need-returns
 returns c =
     let s = c .before .before .before .before .before in
@@ -50,7 +38,6 @@ returns c =
     let next : suc (k .window) < windows t = omega (arith, s .pre .1 .windowed, c .if1 .taken) in
     rw (time, add-one (k .window)) (sym (Laws.tick-next t (clockOf k) next))
 
--- src/turns.rt:33:1
 returns-2 : tie.Need-returns-2
 returns-2 c =
     let s = c .before .before .before .before .before in

@@ -1,71 +1,48 @@
 -- `steps::turns::turn` meets its contract, by what the event asks. Assumes nothing.
-use mathlib.Core.Path.{refl, sym, _∙_, ap}
+use mathlib.Core.Path.{sym, _∙_, ap}
 use borrow.Author.Needs.{needs}
-use Rattle.model.specs.State as model
-use Rattle.model.specs.Events as events
-use Rattle.model.proofs.Accepted.{accepted}
 use Rattle.events.specs.Shown.{askedOf}
-use Rattle.services.specs.Did.{shown}
 use Rattle.calls.proofs.Laws.{refused-does}
 use Rattle.steps.specs.Stepped.{clockOf}
 use Rattle.steps.proofs.Laws
 use borrow.Author.Needs.{needs}
 use Rattle.steps.proofs.turns.turn.Statement.{statement}
 use Rattle.steps.proofs.turns.turn.Tie as tie
-use Rattle.steps.proofs.turns.turn.Reads as reads
-use Rattle.steps.proofs.turns.turn.Lts as lts
-use Rattle.events.proofs.refusal.Reads as refusal-reads
-use Rattle.events.proofs.told_number.Reads as told-number-reads
-use Rattle.events.proofs.decode.Reads as decode-reads
-use Rattle.steps.proofs.turns.call_turn.Reads as call-turn-reads
-use Rattle.steps.proofs.turns.move_turn.Reads as move-turn-reads
-use Rattle.steps.proofs.turns.tick.Reads as tick-reads
 
--- src/turns.rt:110:9
 decode-requires : tie.Need-decode-requires
 decode-requires c κs = search needs
 
--- src/turns.rt:113:17
 enum-told : tie.Need-enum-told
 enum-told c = search needs
 
--- src/turns.rt:113:17
 tick-requires : tie.Need-tick-requires
 tick-requires c κs =
     let h = c .before .before .before .before .before .before .before .before .pre .0 in
     (h .held .accepted, h .held .laid, h .ranged .inWindow)
 
--- src/turns.rt:115:25
 told-number-requires : tie.Need-told-number-requires
 told-number-requires c κs = search needs
 
--- src/turns.rt:119:21
 enum-known-asked : tie.Need-enum-known-asked
 enum-known-asked c = search needs
 
--- src/turns.rt:120:21
 call-turn-requires : tie.Need-call-turn-requires
 call-turn-requires c κs =
     (c .before .before .before .before .before .before .before .before .before .before .before .before .pre .0, (c .before .before .before .before .before .before .before .before .before .before .before .before .pre .1, sym (c .before .before .before .before .before .before .decode .ensures) ∙ ap askedOf (c .before .before .before .before .asked .given .1)))
 
--- src/turns.rt:123:21
 enum-known-asked-2 : tie.Need-enum-known-asked-2
 enum-known-asked-2 c = search needs
 
--- src/turns.rt:124:21
 move-turn-requires : tie.Need-move-turn-requires
 move-turn-requires c κs =
     (c .before .before .before .before .before .before .before .before .before .before .before .before .pre .0, sym (c .before .before .before .before .before .before .decode .ensures) ∙ ap askedOf (c .before .before .before .before .asked2 .given .1))
 
--- src/turns.rt:128:21
 enum-told-2 : tie.Need-enum-told-2
 enum-told-2 c = search needs
 
--- src/turns.rt:128:21
 refusal-requires : tie.Need-refusal-requires
 refusal-requires c κs = search needs
 
--- src/turns.rt:97:1
 returns : tie.Need-returns
 returns c =
     let s = c .before .before .before .before .before .before .before .before .before .before in
@@ -73,63 +50,37 @@ returns c =
     let ms = s .args .modes .now in
     let n = s .args .numbers .now in
     let b = s .args .bytes .now in
-    let e = s .args .event .now in
     let k = s .args .clock in
-    let h = s .pre .0 in
-    let a = accepted t (h .held .accepted) in
-    let st = shown t (clockOf k) ms n b in
-    let at = Laws.at-clock t st e (sym (c .before .before .before .before .decode .ensures) ∙ ap askedOf (c .before .before .enum-told .given .1)) in
-    let does = Laws.schedule-does t (clockOf k) (clockOf (c .before .tick .result)) ms n b (c .told-number .result) (c .before .tick .ensures) (c .told-number .ensures) in
-    record { answered = Laws.act-answers t st e at does; left = Laws.act-leaves t st e at does }
+    Laws.acts (Laws.at-clock (s .args .t .now) _ (s .args .event .now) (sym (c .before .before .before .before .decode .ensures) ∙ ap askedOf (c .before .before .enum-told .given .1))) (Laws.schedule-does t (clockOf k) (clockOf (c .before .tick .result)) ms n b (c .told-number .result) (c .before .tick .ensures) (c .told-number .ensures))
 
--- src/turns.rt:97:1
 same-length : tie.Need-same-length
 same-length c = search needs
 
--- src/turns.rt:97:1
 same-length-2 : tie.Need-same-length-2
 same-length-2 c = search needs
 
--- src/turns.rt:97:1
 same-length-3 : tie.Need-same-length-3
 same-length-3 c = search needs
 
--- src/turns.rt:97:1
 returns-2 : tie.Need-returns-2
 returns-2 c = c .before .before .before .before .before .before .call-turn .ensures
 
--- src/turns.rt:97:1
 same-length-4 : tie.Need-same-length-4
 same-length-4 c = search needs
 
--- src/turns.rt:97:1
 same-length-5 : tie.Need-same-length-5
 same-length-5 c = search needs
 
--- src/turns.rt:97:1
 same-length-6 : tie.Need-same-length-6
 same-length-6 c = search needs
 
--- src/turns.rt:97:1
 returns-3 : tie.Need-returns-3
 returns-3 c = c .before .before .before .before .move-turn .ensures
 
--- src/turns.rt:97:1
 returns-4 : tie.Need-returns-4
 returns-4 c =
     let s = c .before .before .before .before .before .before .before .before .before in
-    let t = s .args .t .now in
-    let ms = s .args .modes .now in
-    let n = s .args .numbers .now in
-    let b = s .args .bytes .now in
-    let e = s .args .event .now in
-    let k = s .args .clock in
-    let h = s .pre .0 in
-    let a = accepted t (h .held .accepted) in
-    let st = shown t (clockOf k) ms n b in
-    let at = Laws.at-unknown t st e (sym (c .before .before .before .decode .ensures) ∙ ap askedOf (c .before .enum-told2 .given .1)) in
-    let does = refused-does st 255 19 (c .refusal .result) refl (c .refusal .ensures) in
-    record { answered = Laws.act-answers t st e at does; left = Laws.act-leaves t st e at does }
+    Laws.acts (Laws.at-unknown (s .args .t .now) _ (s .args .event .now) (sym (c .before .before .before .decode .ensures) ∙ ap askedOf (c .before .enum-told2 .given .1))) (refused-does (c .refusal .ensures))
 
 pub turn-spec : {M : Type 1} → statement M
 turn-spec =
