@@ -7,7 +7,6 @@ use lib.Seq.{take-length, length-take-le}
 use borrow.Author.Needs.{needs}
 use Rattle.model.specs.Words.{bytes32}
 use Rattle.stores.specs.Ring.{pasted}
-use Rattle.stores.proofs.Lists.{length-pasted}
 use Rattle.states.proofs.Parts.{pasted-behind}
 use Rattle.host.specs.Layout.{bytesOfAll}
 use Rattle.host.proofs.Laws.{all-length, all-next, pasted-none}
@@ -53,7 +52,7 @@ loop-again c =
     let long : length so-far ≡ 4 * l .i = all-length (take (l .i) numbers) ∙ ap (λ n. 4 * n) (length-take-le (l .i) numbers (omega arith)) in
     let laid = c .before .before .lay-number .ensures in (
       omega arith,
-      ap length laid ∙ length-pasted (l .out) (s .at + 4 * l .i) (bytes32 (getD numbers (l .i) 0)) (omega (arith, l .inv .1, c .before .before .before .before .before .before .before .before .before .pre)) ∙ l .inv .1,
+      omega (arith, c .before .out .given, l .inv .1),
       laid
           ∙ ap₂ (λ o k. pasted o (s .at + k) (bytes32 (getD numbers (l .i) 0))) (l .inv .2) (sym long)
           ∙ pasted-behind (s .out .now) (s .at) so-far (bytes32 (getD numbers (l .i) 0)) (omega arith)
