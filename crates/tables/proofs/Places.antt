@@ -1,15 +1,14 @@
 -- Where the records of each kind stand: the two searches for the first port and for the first channel, and what they leave behind them.
 -- Assumes nothing.
 use Prim.Native.Nat.{ℕ, _-_, _≤_, _<_}
-use mathlib.Core.Path.{_≡_, refl, ap, sym, _∙_}
+use mathlib.Core.Path.{_≡_, ap, sym, _∙_}
 use mathlib.Core.Bool.{Bool, true, false, not}
 use native.Mathlib.Nat.{sub-zero}
 use native.Mathlib.Omega.{arith}
 use lib.Dec.{eqb}
 use borrow.Author.Tests.{eq-eqb, ne-eqb, eqb-true, not-false}
-use Rattle.model.specs.Words.{if_then_else_, first}
+use Rattle.model.specs.Words.{first}
 use Rattle.model.specs.Tables.{Tables, records, kind, windows, portsEnd}
-use Rattle.model.specs.Load.{byKind}
 use Rattle.model.proofs.Searches.{first-least, first-most, first-passed}
 
 -- what both searches look for: a record that is not of kind m
@@ -52,11 +51,3 @@ module _ (t : Tables) where
   pub port-kind : (r : ℕ) → windows t ≤ r → r < portsEnd t → kind t r ≡ 2
   unfolding portsEnd
   port-kind r l h = eqb-true _ 2 (not-false _ (first-passed (otherKind 2 t) (records t - windows t) (windows t) r l h))
-
--- a test of ports alone says nothing of any other record
-pub only-port : (k : ℕ) (test : Bool) → (k ≡ 2 → ⊥) → byKind k false test false ≡ false
-only-port k test h = rw (ne-eqb k 2 h) (at (eqb k 1))
-  where
-    at : (b : Bool) → (if b then false else false) ≡ false
-    at true = refl
-    at false = refl

@@ -1,0 +1,25 @@
+-- `loader::names::name_fault` meets its contract: only a port's record has a name.
+-- Assumes nothing.
+use borrow.Author.Needs.{needs}
+use Rattle.loader.proofs.names.name_fault.Statement.{statement}
+use Rattle.loader.proofs.names.name_fault.Tie as tie
+use mathlib.Core.Path.{sym}
+use Rattle.model.specs.Load.{nameFault}
+use Rattle.loader.proofs.ByKind.{only-port}
+
+kind-requires : tie.Need-kind-requires
+kind-requires c κs = search needs
+
+port-name-fault-requires : tie.Need-port-name-fault-requires
+port-name-fault-requires c κs = search needs
+
+returns : tie.Need-returns
+unfolding nameFault
+returns c = rw (← c .before .before .kind .ensures, c .before .if1 .taken) (c .port-name-fault .ensures)
+
+returns-2 : tie.Need-returns-2
+unfolding nameFault
+returns-2 c = rw (← c .before .kind .ensures) (sym (only-port _ _ (c .if1 .left)))
+
+pub name-fault-spec : {M : Type 1} → statement M
+name-fault-spec = tie.close (tie.spec kind-requires port-name-fault-requires returns returns-2)
