@@ -1,22 +1,19 @@
--- What the tests of a channel's ends lean on: an id that has a row, the source's own test, a row decoded without loss, and that the records
--- before a channel have no fault.
+-- What the tests of a channel's ends lean on: an id that has a row and its record, the test of end 0, the test of another end, and the test
+-- of the count.
 -- Assumes nothing.
 use Prim.Native.Nat.{ℕ, _+_, _-_, _≤_, _<_}
-use mathlib.Core.Path.{_≡_, refl, ap, sym, _∙_}
+use mathlib.Core.Path.{_≡_, refl, sym, _∙_}
 use mathlib.Core.Bool.{Bool, true, false, _&&_, _||_, not, false≢true}
 use native.Mathlib.Nat.{le-refl}
 use native.Mathlib.Omega.{arith}
 use lib.Dec.{leb, eqb}
-use borrow.Author.Tests.{eq-eqb, ne-eqb, le-leb, leb-true, eqb-true, eqb-false, not-false}
+use borrow.Author.Tests.{eq-eqb, ne-eqb, le-leb, leb-true}
 use Rattle.model.specs.Words.{between}
-use Rattle.model.specs.Tables.{Tables, records, kind, windows, portsEnd, ports, queuing, source, destination, Row, rowAt, destinationsAt, endAt}
-use Rattle.model.specs.Load.{byKind, windowFits, rowFits, portFits, channelFits, idRow, endFits, countFits}
-use Rattle.model.specs.Load.{kindFault, countFault, fieldFault, nameFault, endFault, fault}
-use Rattle.tables.specs.Shown.{modeOf, transferOf, decoded}
-use Rattle.loader.specs.Pieces.{lowest}
-use Rattle.loader.specs.Known.{Placed, FaultlessBefore, ModesFit, SourceRow}
-use Rattle.tables.specs.declared.PortRow.{PortRow}
-use Rattle.tables.proofs.Places.{ports-after, ports-within, port-kind}
+use Rattle.model.specs.Tables.{Tables, records, windows, portsEnd, ports, queuing, source, rowAt, portRecord, destinationsAt, endAt}
+use Rattle.model.specs.Load.{idRow, endFits, countFits}
+use Rattle.tables.proofs.Places.{ports-within}
+use Rattle.loader.specs.Pieces.{takesFrom}
+use Rattle.loader.specs.Known.{Placed, SourceRecord}
 
 -- of a conjunction that holds both parts hold
 left : (a b : Bool) → a && b ≡ true → a ≡ true
@@ -38,11 +35,23 @@ pub record Within (low high x : ℕ) : Type 0 where
 pub within : (low high x : ℕ) → between low high x ≡ true → Within low high x
 within low high x e = record { least = leb-true low x (left _ _ e); most = leb-true x high (right (leb low x) _ e) }
 
--- the record of an id that has a row is there
-pub row-there : (t : Tables) (id : ℕ) → between 1 (ports t) id ≡ true → windows t + (id - 1) < records t
-unfolding ports
-row-there t id e = omega (arith, within 1 (portsEnd t - windows t) id e, ports-after t, ports-within t)
+-- whether an id has a row, and in which record, as the loader asks it: by where the ports and the channels start
+module _ {t : Tables} {port channel r : ℕ} (placed : Placed t port channel r) where
+  pub has-row : {id end : ℕ} {answer : Bool} → id ≡ end → answer ≡ between 1 (channel - port) id → answer ≡ between 1 (ports t) end
+  unfolding ports
+  has-row e test = rw (placed .ported, placed .channeled, e) at test
 
+  pub asked : {id end : ℕ} → id ≡ end → between 1 (ports t) end ≡ true → between 1 (channel - port) id ≡ true
+  unfolding ports
+  asked e rowed = rw (placed .ported, placed .channeled, e) rowed
+
+  pub there : (id : ℕ) {q : ℕ} → between 1 (channel - port) id ≡ true → q ≡ port + (id - 1) → q < records t
+  there id rowed stands = omega (arith, within 1 (channel - port) id rowed, ports-within t)
+
+  pub in-record : {id end q : ℕ} → id ≡ end → q ≡ port + (id - 1) → q ≡ portRecord t (end - 1)
+  in-record e stands = rw (placed .ported, e) at stands
+
+-- the test of end 0, where its own row is the source's
 pub source-end : (t : Tables) (r : ℕ) →
     endFits t r 0 ≡ (between 1 (ports t) (endAt t r 0) && eqb (idRow t (endAt t r 0) .direction) source)
 unfolding endFits
@@ -51,75 +60,24 @@ source-end t r = rw (eq-eqb (idRow t (endAt t r 0) .mode) _ refl, le-leb (idRow 
 pub source-rowed : (t : Tables) (r : ℕ) → endFits t r 0 ≡ true → between 1 (ports t) (endAt t r 0) ≡ true
 source-rowed t r e = left _ _ (sym (source-end t r) ∙ e)
 
--- the source's row, as the loader has it once end 0 fits
-pub source-row :
-    {t : Tables} {r id : ℕ} {from : PortRow} → endFits t r 0 ≡ true → id ≡ endAt t r 0 → from ≡ decoded (idRow t id) → SourceRow t r from
-source-row {t} {r} fits e shown =
-    record { rowed = source-rowed t r fits; shown = shown ∙ ap (λ (i : ℕ). decoded (idRow t i)) e }
+pub source-known : {t : Tables} {port channel r id q : ℕ} → Placed t port channel r → endFits t r 0 ≡ true → id ≡ endAt t r 0
+    → q ≡ port + (id - 1) → SourceRecord t r q
+source-known {t} {r = r} placed fits e stands = record { rowed = source-rowed t r fits; stands = in-record placed e stands }
 
--- whether an id has a row, as the loader asks it
-pub has-row :
-    {t : Tables} {port channel r id end : ℕ} {answer : Bool} → Placed t port channel r → id ≡ end → answer ≡ between 1 (channel - port) id
-    → answer ≡ between 1 (ports t) end
+pub source-there : {t : Tables} {r q : ℕ} → SourceRecord t r q → q < records t
 unfolding ports
-has-row p e test = rw (p .ported, p .channeled, e) at test
+source-there {t} {r} known = omega (arith, within 1 (portsEnd t - windows t) (endAt t r 0) (known .rowed), ports-within t)
 
--- a row whose mode is one of the two is decoded without loss of it
-mode-decoded : (m d p : ℕ) → m ≤ 1 → modeOf (transferOf m d p) ≡ m
-mode-decoded m d p h = at (eqb m 0) refl
-  where
-    at : (b : Bool) → eqb m 0 ≡ b → modeOf (transferOf m d p) ≡ m
-    at true e = rw e (sym (eqb-true m 0 e))
-    at false e =
-        let one : 1 ≡ m = omega (arith, eqb-false m 0 e) in
-        rw e one
-
-mode-of : (t : Tables) (id : ℕ) → ModesFit t → between 1 (ports t) id ≡ true → modeOf (decoded (idRow t id) .transfer) ≡ idRow t id .mode
-mode-of t id fit e = mode-decoded _ _ _ (fit (id - 1) (omega (arith, within 1 (ports t) id e)))
-
--- the test of a destination's end, in terms of the two rows as they are decoded
-pub destination-end : (t : Tables) (r j : ℕ) (from : PortRow) → SourceRow t r from → ModesFit t → 0 < j
-    → between 1 (ports t) (endAt t r j) ≡ true
-    → endFits t r j
-    ≡ (eqb (decoded (idRow t (endAt t r j)) .direction) destination
-    && eqb (modeOf (decoded (idRow t (endAt t r j)) .transfer)) (modeOf (from .transfer))
-    && leb (from .largest) (decoded (idRow t (endAt t r j)) .largest))
+-- the test of another end, which has a row
+pub destination-end : (t : Tables) (r j : ℕ) → 0 < j → between 1 (ports t) (endAt t r j) ≡ true
+    → endFits t r j ≡ takesFrom (idRow t (endAt t r j)) (idRow t (endAt t r 0))
 unfolding endFits
-destination-end t r j from known fit some e =
+destination-end t r j some e =
     let zero : eqb j 0 ≡ false = ne-eqb j 0 (λ z. omega arith) in
-    rw (known .shown, mode-of t (endAt t r j) fit e, mode-of t (endAt t r 0) fit (known .rowed), e, zero)
+    rw (e, zero)
 
--- the test of a channel's count, in terms of the source's row as it is decoded
-pub count-of : (t : Tables) (r : ℕ) (from : PortRow) → SourceRow t r from → ModesFit t
-    → countFits t r ≡ (not (eqb (modeOf (from .transfer)) queuing) || eqb (destinationsAt t r) 1)
+-- the test of the count, as the loader asks it of the source's mode
+pub count-of : {t : Tables} {r q mode : ℕ} {answer : Bool} → SourceRecord t r q → mode ≡ rowAt t q .mode
+    → answer ≡ (not (eqb mode queuing) || eqb (destinationsAt t r) 1) → answer ≡ countFits t r
 unfolding countFits
-count-of t r from known fit = rw (known .shown, mode-of t (endAt t r 0) fit (known .rowed))
-
--- where the records before r have no fault, and r is past the ports, each port's mode is one of the two
-fields-fit : (a b c d e : Bool) → lowest a b c d e ≡ 0 → c ≡ false
-fields-fit true b c d e h = absurd (omega arith)
-fields-fit false true c d e h = absurd (omega arith)
-fields-fit false false true d e h = absurd (omega arith)
-fields-fit false false false d e h = refl
-
-row-fits : (t : Tables) (q : ℕ) → kind t q ≡ 2 → fault t q ≡ 0 → rowFits (rowAt t q) ≡ true
-unfolding fault fieldFault portFits
-row-fits t q k h =
-    let fits : byKind (kind t q) (windowFits t q) (portFits t q) (channelFits t q) ≡ true = not-false _ (fields-fit (kindFault t q) (countFault t q) (fieldFault t q) (nameFault t q) (endFault t q) h) in
-    left _ _ (rw k at fits)
-
-first-of-five : (a b c d e : Bool) → a && b && c && d && e ≡ true → a ≡ true
-first-of-five a b c d e h = left a b (left (a && b) c (left (a && b && c) d (left (a && b && c && d) e h)))
-
-mode-fits : (p : Row) → rowFits p ≡ true → p .mode ≤ 1
-unfolding rowFits
-mode-fits p e =
-    let owner = leb (p .owner) 15 in
-    let mode = leb (p .mode) 1 in
-    leb-true _ 1 (right owner mode (first-of-five (owner && mode) _ _ _ _ e))
-
-pub modes-fit : (t : Tables) (r : ℕ) → portsEnd t ≤ r → FaultlessBefore t r → ModesFit t
-unfolding ports
-modes-fit t r past h k few =
-    let q = windows t + k in
-    mode-fits _ (row-fits t q (port-kind t q (omega arith) (omega (arith, ports-after t))) (h q (omega (arith, ports-after t))))
+count-of known e test = rw (e, known .stands) at test

@@ -1,5 +1,4 @@
 pub mod Answers
-pub mod ByKind
 pub mod ChannelEnds
 pub mod Faults
 pub mod Searched

@@ -1,10 +1,10 @@
 -- Pieces of the model's tests, each of which a function of its own carries out.
 -- Assumes nothing.
 use Prim.Native.Nat.{ℕ, suc, _+_, _-_}
-use mathlib.Core.Bool.{Bool, _||_, not}
-use lib.Dec.{eqb}
+use mathlib.Core.Bool.{Bool, _&&_, _||_, not}
+use lib.Dec.{leb, eqb}
 use Rattle.model.specs.Words.{if_then_else_, any, all, byte}
-use Rattle.model.specs.Tables.{Tables, windows, portsEnd, destinationsAt, endAt}
+use Rattle.model.specs.Tables.{Tables, windows, portsEnd, destination, Row, destinationsAt, endAt}
 use Rattle.model.specs.Load.{sameOwnerAndName, ends, endFits, namedAmong, namedBefore}
 
 -- of a channel with so many destinations the other ids are zero
@@ -18,6 +18,10 @@ ended t at = all (λ k. not (eqb (byte t (at + k)) 0) || eqb (byte t (at + suc k
 -- an earlier port has the same owner and name
 abbrev pub namedEarlier : Tables → ℕ → Bool
 namedEarlier t r = any (sameOwnerAndName t r) (r - windows t) (windows t)
+
+-- a row is that of a destination, of its source's mode, for messages as large as the source's
+abbrev pub takesFrom : Row → Row → Bool
+takesFrom to from = eqb (to .direction) destination && eqb (to .mode) (from .mode) && leb (from .largest) (to .largest)
 
 -- each destination of the channel in record r fits
 abbrev pub destinationsFit : Tables → ℕ → Bool

@@ -1,23 +1,22 @@
 // Refusal 25: the ends of a channel. Its ends are ids in a row: end 0 is the source, ends 1 to its count the destinations. A count that
-// 23 refuses may be up to 255, so that an end stands past the table.
-ghost use Prim.Native.Nat.{_+_, _≤_, _<_};
+// 23 refuses may be up to 255, so that an end stands past the table. The rows are read as they stand.
+ghost use Prim.Native.Nat.{_+_, _-_, _≤_, _<_};
 ghost use mathlib.Core.Path.{_≡_};
-ghost use mathlib.Core.Bool.{true, _&&_, _||_, not};
-ghost use lib.Dec.{leb, eqb};
+ghost use mathlib.Core.Bool.{true, _||_, not};
+ghost use lib.Dec.{eqb};
 ghost use Rattle.model.specs.Words.{between};
-ghost use Rattle.model.specs.Tables.{records, windows, portsEnd, ports, queuing, destination, endAt};
-ghost use Rattle.model.specs.Load.{idRow, ends, endFits, namedAmong, namedBefore, channelEndsFit, endFault};
-ghost use Rattle.tables.specs.Shown.{modeOf, decoded};
-ghost use Rattle.loader.specs.Pieces.{destinationsFit, namedInEarlier, namedAgain};
-ghost use Rattle.loader.specs.Known.{Placed, SourceRow, ModesFit, FaultlessBefore};
+ghost use Rattle.model.specs.Tables.{records, portsEnd, queuing, rowAt, endAt};
+ghost use Rattle.model.specs.Load.{ends, endFits, namedAmong, namedBefore, channelEndsFit, endFault};
+ghost use Rattle.loader.specs.Pieces.{takesFrom, destinationsFit, namedInEarlier, namedAgain};
+ghost use Rattle.loader.specs.Known.{Placed, SourceRecord};
 use tables::DESTINATION;
-use tables::PortRow;
+use tables::QUEUING;
 use tables::RECORD_SIZE;
 use tables::SOURCE;
-use tables::Transfer;
 use tables::kind;
-use tables::mode;
-use tables::port_row;
+use tables::row_direction;
+use tables::row_largest;
+use tables::row_mode;
 use tables::word16_at;
 
 // The id at end j of the channel in record r, 0 past the end of the table.
@@ -43,13 +42,12 @@ fn is_port(id: usize, ports: usize) -> bool
     1 <= id && id <= ports
 }
 
-// The row of an id that has one.
-fn id_row(t: &[u8], first_port: usize, id: usize) -> PortRow
-    requires { ⌜ «first_port» ≡ windows (now t) ⌝ }
-    requires { ⌜ between 1 (ports (now t)) id ≡ true ⌝ }
-    ensures { λ row. ⌜ row ≡ decoded (idRow (now (t .entry)) id) ⌝ }
+// The record of an id that has a row.
+fn id_record(first_port: usize, first_channel: usize, id: usize) -> usize
+    requires { ⌜ between 1 («first_channel» - «first_port») id ≡ true ⌝ }
+    ensures { λ q. ⌜ q ≡ «first_port» + (id - 1) ⌝ }
 {
-    port_row(t, first_port + (id - 1))
+    first_port + (id - 1)
 }
 
 // End 0: an id with a row, of a source.
@@ -61,42 +59,35 @@ fn source_fits(t: &[u8], first_port: usize, first_channel: usize, r: usize) -> b
     if !is_port(id, first_channel - first_port) {
         return false;
     }
-    let row = id_row(t, first_port, id);
-    row.direction == SOURCE
+    row_direction(t, id_record(first_port, first_channel, id)) == SOURCE
 }
 
-// A row is that of a destination, of its source's mode, for messages as large as the source's.
-fn takes_from(row: PortRow, source: PortRow) -> bool
-    ensures { λ r.
-        ⌜
-        r
-        ≡ (eqb (row .direction) destination && eqb (modeOf (row .transfer)) (modeOf (source .transfer))
-        && leb (source .largest) (row .largest))
-        ⌝ }
+// The row in record q is that of a destination, of its source's mode, for messages as large as the source's.
+fn takes_from(t: &[u8], q: usize, source: usize) -> bool
+    requires { ⌜ q < records (now t) ⌝ }
+    requires { ⌜ source < records (now t) ⌝ }
+    ensures { λ r. ⌜ r ≡ takesFrom (rowAt (now (t .entry)) q) (rowAt (now (t .entry)) source) ⌝ }
 {
-    if row.direction != DESTINATION {
+    if row_direction(t, q) != DESTINATION {
         return false;
     }
-    let received = row.transfer;
-    let sent = source.transfer;
-    if mode(received) != mode(sent) {
+    if row_mode(t, q) != row_mode(t, source) {
         return false;
     }
-    source.largest <= row.largest
+    row_largest(t, source) <= row_largest(t, q)
 }
 
-// End j, a destination: an id with a row, which takes from the source's row.
+// End j, a destination: an id with a row, which takes from the row of the source, in record source.
 fn destination_fits(
     t: &[u8],
     first_port: usize,
     first_channel: usize,
     r: usize,
-    source: PortRow,
+    source: usize,
     j: usize,
 ) -> bool
     requires { ⌜ Placed (now t) «first_port» «first_channel» r ⌝ }
-    requires { ⌜ SourceRow (now t) r source ⌝ }
-    requires { ⌜ ModesFit (now t) ⌝ }
+    requires { ⌜ SourceRecord (now t) r source ⌝ }
     requires { ⌜ (0 < j) × (j < 256) ⌝ }
     ensures { λ fits. ⌜ fits ≡ endFits (now (t .entry)) r j ⌝ }
 {
@@ -104,7 +95,7 @@ fn destination_fits(
     if !is_port(id, first_channel - first_port) {
         return false;
     }
-    takes_from(id_row(t, first_port, id), source)
+    takes_from(t, id_record(first_port, first_channel, id), source)
 }
 
 fn destinations_fit(
@@ -112,11 +103,10 @@ fn destinations_fit(
     first_port: usize,
     first_channel: usize,
     r: usize,
-    source: PortRow,
+    source: usize,
 ) -> bool
     requires { ⌜ Placed (now t) «first_port» «first_channel» r ⌝ }
-    requires { ⌜ SourceRow (now t) r source ⌝ }
-    requires { ⌜ ModesFit (now t) ⌝ }
+    requires { ⌜ SourceRecord (now t) r source ⌝ }
     ensures { λ fits. ⌜ fits ≡ destinationsFit (now (t .entry)) r ⌝ }
 {
     let end = end_count(t, r);
@@ -131,14 +121,10 @@ fn destinations_fit(
 }
 
 // A queuing channel has one destination.
-fn count_fits(source: PortRow, count: u8) -> bool
-    ensures { λ r. ⌜ r ≡ (not (eqb (modeOf (source .transfer)) queuing) || eqb count 1) ⌝ }
+fn count_fits(mode: u8, count: u8) -> bool
+    ensures { λ r. ⌜ r ≡ (not (eqb mode queuing) || eqb count 1) ⌝ }
 {
-    let sent = source.transfer;
-    match sent {
-        Transfer::Sampling(_) => true,
-        Transfer::Queuing(_) => count == 1,
-    }
+    mode != QUEUING || count == 1
 }
 
 // One of the first n ends of the channel in record q is the id.
@@ -201,17 +187,16 @@ fn named_again(t: &[u8], first_channel: usize, r: usize) -> bool
 
 fn channel_ends_fit(t: &[u8], first_port: usize, first_channel: usize, r: usize) -> bool
     requires { ⌜ Placed (now t) «first_port» «first_channel» r ⌝ }
-    requires { ⌜ ModesFit (now t) ⌝ }
     ensures { λ fits. ⌜ fits ≡ channelEndsFit (now (t .entry)) r ⌝ }
 {
     if !source_fits(t, first_port, first_channel, r) {
         return false;
     }
-    let source = id_row(t, first_port, end_at(t, r, 0));
+    let source = id_record(first_port, first_channel, end_at(t, r, 0));
     if !destinations_fit(t, first_port, first_channel, r, source) {
         return false;
     }
-    if !count_fits(source, t[RECORD_SIZE * r + 1]) {
+    if !count_fits(row_mode(t, source), t[RECORD_SIZE * r + 1]) {
         return false;
     }
     !named_again(t, first_channel, r)
@@ -219,7 +204,6 @@ fn channel_ends_fit(t: &[u8], first_port: usize, first_channel: usize, r: usize)
 
 pub fn end_fault(t: &[u8], first_port: usize, first_channel: usize, r: usize) -> bool
     requires { ⌜ Placed (now t) «first_port» «first_channel» r ⌝ }
-    requires { ⌜ FaultlessBefore (now t) r ⌝ }
     ensures { λ faulty. ⌜ faulty ≡ endFault (now (t .entry)) r ⌝ }
 {
     let k = kind(t, r);

@@ -7,7 +7,7 @@ ghost use Rattle.model.specs.Tables.{records, kind, windows, portsEnd};
 ghost use Rattle.model.specs.Load.{lengthFault, kindFault, countFault, fault, firstFault, loadOf};
 ghost use Rattle.loader.specs.Shown.{verdictOf};
 ghost use Rattle.loader.specs.Pieces.{lowest};
-ghost use Rattle.loader.specs.Known.{Placed, FaultlessBefore};
+ghost use Rattle.loader.specs.Known.{Placed};
 use super::MOST_CHANNELS;
 use super::MOST_PORTS;
 use super::MOST_WINDOWS;
@@ -97,7 +97,6 @@ fn lowest(kind: bool, count: bool, field: bool, name: bool, end: bool) -> u8
 // The number of the fault of record r, 0 where there is none.
 fn fault(t: &[u8], first_port: usize, first_channel: usize, r: usize) -> u8
     requires { ⌜ Placed (now t) «first_port» «first_channel» r ⌝ }
-    requires { ⌜ FaultlessBefore (now t) r ⌝ }
     ensures { λ number. ⌜ number ≡ fault (now (t .entry)) r ⌝ }
 {
     lowest(

@@ -1,13 +1,13 @@
--- Where the records of each kind stand: the windows and the ports are runs of records of one kind, and what a run leaves behind it.
+-- Where the records of each kind stand: the windows and the ports are runs of records of one kind.
 -- Assumes nothing.
-use Prim.Native.Nat.{ℕ, _-_, _≤_, _<_}
+use Prim.Native.Nat.{ℕ, _-_, _≤_}
 use mathlib.Core.Path.{_≡_, refl, ap, sym, _∙_}
 use mathlib.Core.Bool.{true, false, not}
 use native.Mathlib.Nat.{sub-zero}
 use native.Mathlib.Omega.{arith}
-use borrow.Author.Tests.{eq-eqb, ne-eqb, eqb-true, not-false}
+use borrow.Author.Tests.{eq-eqb, ne-eqb}
 use Rattle.model.specs.Tables.{Tables, records, kind, windows, portsEnd}
-use Rattle.model.proofs.Searches.{first-least, first-most, first-passed}
+use Rattle.model.proofs.Searches.{first-least, first-most}
 use Rattle.tables.specs.Runs.{otherKind, runEnd}
 
 module _ (t : Tables) where
@@ -20,9 +20,6 @@ module _ (t : Tables) where
   run-within : (m k : ℕ) → k ≤ records t → runEnd m t k ≤ records t
   run-within m k h = omega (arith, first-most (otherKind m t) (records t - k) k)
 
-  run-kind : (m k r : ℕ) → k ≤ r → r < runEnd m t k → kind t r ≡ m
-  run-kind m k r l h = eqb-true _ m (not-false _ (first-passed (otherKind m t) (records t - k) k r l h))
-
   -- the windows are the run of kind 1 from the first record on, the ports that of kind 2 from there on
   pub windows-run : windows t ≡ runEnd 1 t 0
   unfolding windows
@@ -32,7 +29,7 @@ module _ (t : Tables) where
   unfolding portsEnd
   ports-run w e = rw e
 
-  -- what they leave behind: the counts are in order, and each record before is of its kind
+  -- the counts are in order
   pub windows-within : windows t ≤ records t
   windows-within = rw windows-run (run-within 1 0 (omega arith))
 
@@ -42,9 +39,3 @@ module _ (t : Tables) where
 
   pub ports-within : portsEnd t ≤ records t
   ports-within = rw (ports-run _ refl) (run-within 2 (windows t) windows-within)
-
-  pub window-kind : (r : ℕ) → r < windows t → kind t r ≡ 1
-  window-kind r h = run-kind 1 0 r (omega arith) (rw windows-run at h)
-
-  pub port-kind : (r : ℕ) → windows t ≤ r → r < portsEnd t → kind t r ≡ 2
-  port-kind r l h = run-kind 2 (windows t) r l (rw (ports-run _ refl) at h)

@@ -30,6 +30,9 @@ pub use rows::depth;
 pub use rows::mode;
 pub use rows::port_row;
 pub use rows::refresh;
+pub use rows::row_direction;
+pub use rows::row_largest;
+pub use rows::row_mode;
 
 // A record's size in bytes, and a name's.
 pub const RECORD_SIZE: usize = 48;

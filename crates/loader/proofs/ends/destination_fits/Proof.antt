@@ -1,16 +1,14 @@
--- `loader::ends::destination_fits` meets its contract: `destination-end` says the test of an end in terms of the decoded rows.
+-- `loader::ends::destination_fits` meets its contract: `destination-end` says the test of an end that has a row.
 -- Assumes nothing.
 use borrow.Author.Needs.{needs}
 use Rattle.loader.proofs.ends.destination_fits.Statement.{statement}
 use Rattle.loader.proofs.ends.destination_fits.Tie as tie
-use Prim.Native.Nat.{ℕ}
-use mathlib.Core.Path.{refl, ap, sym, _∙_}
+use mathlib.Core.Path.{sym, _∙_}
 use native.Mathlib.Omega.{arith}
-use Rattle.model.specs.Load.{idRow, endFits}
-use Rattle.tables.specs.Shown.{decoded}
-use Rattle.loader.proofs.Answers.{fails, holds}
+use Rattle.model.specs.Load.{endFits}
 use Rattle.tables.proofs.Places.{ports-after}
-use Rattle.loader.proofs.ChannelEnds.{has-row, destination-end}
+use Rattle.loader.proofs.Answers.{fails, holds}
+use Rattle.loader.proofs.ChannelEnds.{has-row, there, in-record, source-there, destination-end}
 
 end-at-requires : tie.Need-end-at-requires
 end-at-requires c κs = search needs
@@ -27,23 +25,25 @@ returns c =
     let test = has-row (c .before .before .before .before .pre .0) (c .before .before .end-at .ensures) (c .before .is-port .ensures) in
     rw (fails test (c .if1 .taken))
 
-id-row-requires : tie.Need-id-row-requires
-id-row-requires c κs =
-    let placed = c .before .before .before .before .pre .0 in
-    (placed .ported, holds (has-row {id = c .before .before .end-at .result} placed refl (c .before .is-port .ensures)) (c .if1 .left))
+id-record-requires : tie.Need-id-record-requires
+id-record-requires c κs = holds (c .before .is-port .ensures) (c .if1 .left)
 
 takes-from-requires : tie.Need-takes-from-requires
-takes-from-requires c κs = search needs
+takes-from-requires c κs =
+    let tested = c .before in
+    let end = tested .before .before in
+    let given = end .before .before .pre in
+    (there (given .0) (end .end-at .result) (holds (tested .before .is-port .ensures) (tested .if1 .left)) (c .id-record .ensures), source-there (given .1 .0))
 
 returns-2 : tie.Need-returns-2
 returns-2 c =
     let tested = c .before .before in
     let end = tested .before .before in
     let given = end .before .before in
-    let t = given .args .t .now in
     let test = has-row (given .pre .0) (end .end-at .ensures) (tested .before .is-port .ensures) in
-    let row = c .before .id-row .ensures ∙ ap (λ (id : ℕ). decoded (idRow t id)) (end .end-at .ensures) in
-    (rw row at (c .takes-from .ensures)) ∙ sym (destination-end t _ _ _ (given .pre .1 .0) (given .pre .1 .1 .0) (given .pre .1 .1 .1 .0) (holds test (tested .if1 .left)))
+    let stands = in-record (given .pre .0) (end .end-at .ensures) (c .before .id-record .ensures) in
+    (rw (stands, given .pre .1 .0 .stands) at (c .takes-from .ensures))
+    ∙ sym (destination-end _ _ _ (given .pre .1 .1 .0) (holds test (tested .if1 .left)))
 
 pub destination-fits-spec : {M : Type 1} → statement M
 destination-fits-spec =
@@ -53,6 +53,6 @@ destination-fits-spec =
     sub-is-port
     is-port-requires
     returns
-    id-row-requires
+    id-record-requires
     takes-from-requires
     returns-2)

@@ -30,7 +30,7 @@ destination-fits-requires c κs =
     let at = c .before .loop in
     let given = c .before .before .before .before in
     let bytes = c .before .before .before .shared-slice-known .given in
-    (given .pre .0, (given .pre .1 .0, (given .pre .1 .1, omega (arith, at .inv .0, at .inv .1, bytes (48 * given .args .r + 1)))))
+    (given .pre .0, (given .pre .1, omega (arith, at .inv .0, at .inv .1, bytes (48 * given .args .r + 1))))
 
 returns : tie.Need-returns Inv-loop μ-loop
 returns c =

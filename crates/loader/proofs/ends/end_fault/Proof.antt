@@ -1,4 +1,4 @@
--- `loader::ends::end_fault` meets its contract: only a channel's record has ends, and it stands past the ports, whose rows are in range.
+-- `loader::ends::end_fault` meets its contract: only a channel's record has ends.
 -- Assumes nothing.
 use borrow.Author.Needs.{needs}
 use Rattle.loader.proofs.ends.end_fault.Statement.{statement}
@@ -7,8 +7,6 @@ use mathlib.Core.Path.{ap}
 use mathlib.Core.Bool.{not}
 use borrow.Author.Tests.{ne-eqb}
 use Rattle.model.specs.Load.{endFault}
-use Rattle.loader.proofs.ChannelEnds.{modes-fit}
-use Rattle.loader.proofs.ByKind.{past-ports}
 
 kind-requires : tie.Need-kind-requires
 kind-requires c κs = search needs
@@ -22,10 +20,7 @@ unfolding endFault
 returns-2 c = rw (← c .before .before .kind .ensures, c .if2 .taken)
 
 channel-ends-fit-requires : tie.Need-channel-ends-fit-requires
-channel-ends-fit-requires c κs =
-    let given = c .before .before .before .before in
-    let past = past-ports _ _ _ (c .before .before .kind .ensures) (c .before .if1 .left) (c .if2 .left) in
-    (given .pre .0, modes-fit _ _ past (given .pre .1))
+channel-ends-fit-requires c κs = search needs
 
 returns-3 : tie.Need-returns-3
 unfolding endFault

@@ -10,7 +10,7 @@ use Rattle.model.specs.Words.{first}
 use Rattle.model.specs.Tables.{records}
 use Rattle.model.specs.Load.{firstFault}
 use Rattle.model.proofs.Searches.{first-more, first-stop, first-end}
-use Rattle.loader.proofs.Faults.{isFaulty, is-faultless, is-faulty, faults-whole, faultless, not-past}
+use Rattle.loader.proofs.Faults.{isFaulty, is-faultless, is-faulty, faults-whole}
 
 abbrev Inv-loop : tie.InvT-loop
 Inv-loop t first-port first-channel end r₀ r = (r ≤ end) × (end ≡ records t) × (firstFault t ≡ first (isFaulty t) (end - r) r)
@@ -26,9 +26,8 @@ loop-holds c = (omega arith, c .records .ensures, faults-whole _ _ (c .records .
 
 fault-requires : tie.Need-fault-requires Inv-loop μ-loop
 fault-requires c κs =
-    let given = c .before .before .before .before in
-    let at = c .before .loop in
-    (record { ported = given .pre .0; channeled = given .pre .1; there = omega (arith, at .inv .1) }, faultless _ _ (not-past _ _ _ (at .inv .2)))
+    let given = c .before .before .before .before .pre in
+    record { ported = given .0; channeled = given .1; there = omega (arith, c .before .loop .inv .1) }
 
 returns : tie.Need-returns Inv-loop μ-loop
 returns c =

@@ -6,7 +6,6 @@ use Rattle.loader.proofs.load.judge.Tie as tie
 use native.Mathlib.Omega.{arith}
 use borrow.Author.Tests.{eq-eqb, ne-eqb, lt-ltb, le-ltb}
 use Rattle.model.specs.Load.{loadOf}
-use Rattle.loader.proofs.Faults.{faultless}
 
 length-fault-requires : tie.Need-length-fault-requires
 length-fault-requires c κs = search needs
@@ -31,14 +30,11 @@ fault-requires : tie.Need-fault-requires
 fault-requires c κs =
     let found = c .before in
     let placed = found .before .before .before in
-    let t = placed .before .before .before .before .args .t .now in (
-      record {
-        ported = placed .windows .ensures;
-        channeled = found .before .before .ports-end-from .ensures;
-        there = omega (arith, found .before .records .ensures);
-      },
-      faultless t _ (omega (arith, found .first-fault .ensures)),
-    )
+    record {
+      ported = placed .windows .ensures;
+      channeled = found .before .before .ports-end-from .ensures;
+      there = omega (arith, found .before .records .ensures);
+    }
 
 returns-2 : tie.Need-returns-2
 unfolding loadOf

@@ -3,9 +3,21 @@
 use borrow.Author.Needs.{needs}
 use Rattle.loader.proofs.names.name_fault.Statement.{statement}
 use Rattle.loader.proofs.names.name_fault.Tie as tie
-use mathlib.Core.Path.{sym}
-use Rattle.model.specs.Load.{nameFault}
-use Rattle.loader.proofs.ByKind.{only-port}
+use Prim.Native.Nat.{ℕ}
+use mathlib.Core.Path.{_≡_, refl, sym}
+use mathlib.Core.Bool.{Bool, true, false}
+use lib.Dec.{eqb}
+use borrow.Author.Tests.{ne-eqb}
+use Rattle.model.specs.Words.{if_then_else_}
+use Rattle.model.specs.Load.{byKind, nameFault}
+
+-- a test of ports alone says nothing of any other record
+only-port : (k : ℕ) (test : Bool) → (k ≡ 2 → ⊥) → byKind k false test false ≡ false
+only-port k test h = rw (ne-eqb k 2 h) (at (eqb k 1))
+  where
+    at : (b : Bool) → (if b then false else false) ≡ false
+    at true = refl
+    at false = refl
 
 kind-requires : tie.Need-kind-requires
 kind-requires c κs = search needs
