@@ -1,4 +1,3 @@
-pub mod Answers
 pub mod ChannelEnds
 pub mod Faults
 pub mod Searched

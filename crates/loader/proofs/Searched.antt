@@ -1,30 +1,15 @@
 -- The tests that the loader's searches carry out, by name, and each search as its loop begins it: up to an end, from where it stands.
 -- Assumes nothing.
-use Prim.Native.Nat.{ℕ, suc, _+_, _-_}
+use Prim.Native.Nat.{ℕ, suc, _-_}
 use mathlib.Core.Path.{_≡_}
-use mathlib.Core.Bool.{Bool, _||_, not}
+use mathlib.Core.Bool.{Bool}
 use native.Mathlib.Nat.{sub-zero}
-use native.Mathlib.Numerals.{add-one}
 use native.Mathlib.Omega.{arith}
 use lib.Dec.{eqb}
-use Rattle.model.specs.Words.{any, all, byte}
+use Rattle.model.specs.Words.{any, all}
 use Rattle.model.specs.Tables.{Tables, endAt}
 use Rattle.model.specs.Load.{ends, endFits, namedAmong, namedBefore}
-use Rattle.loader.specs.Pieces.{unusedBlank, destinationsFit, namedAgain}
-
--- an id of a channel is zero
-abbrev pub isUnused : Tables → ℕ → ℕ → Bool
-isUnused t r j = eqb (endAt t r j) 0
-
-after-count : (count : ℕ) → 9 - suc count ≡ 8 - count
-after-count count = omega arith
-
-pub unused-whole : (t : Tables) (r count : ℕ) → unusedBlank t r count ≡ all (isUnused t r) (9 - (count + 1)) (count + 1)
-unused-whole t r count = rw (add-one, after-count)
-
--- after a zero of a name comes a zero
-abbrev pub follows : Tables → ℕ → ℕ → Bool
-follows t at k = not (eqb (byte t (at + k)) 0) || eqb (byte t (at + suc k)) 0
+use Rattle.loader.specs.Pieces.{destinationsFit, namedAgain}
 
 -- past end 0 the destinations are left
 after-source : (end count : ℕ) → end ≡ suc count → end - 1 ≡ count

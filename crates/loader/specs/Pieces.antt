@@ -1,23 +1,11 @@
 -- Pieces of the model's tests, each of which a function of its own carries out.
 -- Assumes nothing.
-use Prim.Native.Nat.{ℕ, suc, _+_, _-_}
-use mathlib.Core.Bool.{Bool, _&&_, _||_, not}
+use Prim.Native.Nat.{ℕ, _-_}
+use mathlib.Core.Bool.{Bool, _&&_}
 use lib.Dec.{leb, eqb}
-use Rattle.model.specs.Words.{if_then_else_, any, all, byte}
-use Rattle.model.specs.Tables.{Tables, windows, portsEnd, destination, Row, destinationsAt, endAt}
-use Rattle.model.specs.Load.{sameOwnerAndName, ends, endFits, namedAmong, namedBefore}
-
--- of a channel with so many destinations the other ids are zero
-abbrev pub unusedBlank : Tables → ℕ → ℕ → Bool
-unusedBlank t r count = all (λ j. eqb (endAt t r j) 0) (8 - count) (suc count)
-
--- after the first zero of the name at a place all is zero
-abbrev pub ended : Tables → ℕ → Bool
-ended t at = all (λ k. not (eqb (byte t (at + k)) 0) || eqb (byte t (at + suc k)) 0) 29 0
-
--- an earlier port has the same owner and name
-abbrev pub namedEarlier : Tables → ℕ → Bool
-namedEarlier t r = any (sameOwnerAndName t r) (r - windows t) (windows t)
+use Rattle.model.specs.Words.{if_then_else_, any, all}
+use Rattle.model.specs.Tables.{Tables, portsEnd, destination, Row, destinationsAt}
+use Rattle.model.specs.Load.{ends, endFits, namedAmong, namedBefore}
 
 -- a row is that of a destination, of its source's mode, for messages as large as the source's
 abbrev pub takesFrom : Row → Row → Bool

@@ -1,9 +1,7 @@
 // The loader of 01, "Load refusals": the verdict on the caller's bytes. A function's contract is an equation with the model, whose names
 // it takes.
 mod ends;
-mod fields;
 mod load;
-mod names;
 
 pub use load::judge;
 
@@ -13,9 +11,6 @@ pub const MOST_WINDOWS: usize = 64;
 pub const MOST_PORTS: usize = 64;
 
 pub const MOST_CHANNELS: usize = 32;
-
-// What stands for a partition in a mover window.
-pub const MOVER: u8 = 32;
 
 // What a load says of tables. `verdictOf` of specs/Shown.antt gives the paper's number and record for each case.
 pub enum Verdict {

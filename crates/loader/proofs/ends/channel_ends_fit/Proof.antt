@@ -6,7 +6,7 @@ use Rattle.loader.proofs.ends.channel_ends_fit.Tie as tie
 use mathlib.Core.Path.{ap}
 use mathlib.Core.Bool.{not}
 use Rattle.model.specs.Load.{channelEndsFit}
-use Rattle.loader.proofs.Answers.{fails, holds}
+use Rattle.fields.proofs.Answers.{fails, holds}
 use Rattle.loader.proofs.ChannelEnds.{asked, source-rowed, source-known, source-there, count-of}
 
 source-fits-requires : tie.Need-source-fits-requires

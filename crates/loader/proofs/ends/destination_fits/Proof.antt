@@ -7,7 +7,7 @@ use mathlib.Core.Path.{sym, _∙_}
 use native.Mathlib.Omega.{arith}
 use Rattle.model.specs.Load.{endFits}
 use Rattle.tables.proofs.Places.{ports-after}
-use Rattle.loader.proofs.Answers.{fails, holds}
+use Rattle.fields.proofs.Answers.{fails, holds}
 use Rattle.loader.proofs.ChannelEnds.{has-row, there, in-record, source-there, destination-end}
 
 end-at-requires : tie.Need-end-at-requires

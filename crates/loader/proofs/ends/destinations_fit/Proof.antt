@@ -10,7 +10,7 @@ use Rattle.model.specs.Words.{all}
 use Rattle.model.specs.Load.{ends, endFits}
 use Rattle.model.proofs.Searches.{all-more, all-stop, all-end}
 use Rattle.loader.specs.Pieces.{destinationsFit}
-use Rattle.loader.proofs.Answers.{fails, holds}
+use Rattle.fields.proofs.Answers.{fails, holds}
 use Rattle.loader.proofs.Searched.{destinations-whole}
 
 abbrev Inv-loop : tie.InvT-loop

@@ -9,7 +9,7 @@ use native.Mathlib.Omega.{arith}
 use lib.Dec.{eqb}
 use Rattle.model.specs.Tables.{rowAt}
 use Rattle.tables.proofs.Places.{ports-after}
-use Rattle.loader.proofs.Answers.{fails, holds}
+use Rattle.fields.proofs.Answers.{fails, holds}
 use Rattle.loader.proofs.ChannelEnds.{has-row, there, in-record, source-end}
 
 end-at-requires : tie.Need-end-at-requires

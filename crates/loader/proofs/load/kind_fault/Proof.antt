@@ -6,7 +6,7 @@ use Rattle.loader.proofs.load.kind_fault.Tie as tie
 use mathlib.Core.Path.{ap, _∙_}
 use Rattle.model.specs.Words.{between}
 use Rattle.model.specs.Load.{kindFault}
-use Rattle.loader.proofs.Answers.{fails, holds}
+use Rattle.fields.proofs.Answers.{fails, holds}
 
 kind-requires : tie.Need-kind-requires
 kind-requires c κs = search needs
