@@ -3,9 +3,11 @@
 use borrow.Author.Needs.{needs}
 use Rattle.loader.proofs.load.judge.Statement.{statement}
 use Rattle.loader.proofs.load.judge.Tie as tie
+use mathlib.Core.Path.{sym, _∙_}
 use native.Mathlib.Omega.{arith}
 use borrow.Author.Tests.{eq-eqb, ne-eqb, lt-ltb, le-ltb}
 use Rattle.model.specs.Load.{loadOf}
+use Rattle.loader.proofs.Faults.{judged}
 
 length-fault-requires : tie.Need-length-fault-requires
 length-fault-requires c κs = search needs
@@ -37,46 +39,35 @@ fault-requires c κs =
     }
 
 returns-2 : tie.Need-returns-2
-unfolding loadOf
 returns-2 c =
     let found = c .before .before in
     let placed = found .before .before .before in
+    let whole = sym (placed .before .before .length-fault .ensures) ∙ placed .before .if1 .left in
     rw (
-      ← placed .before .before .length-fault .ensures,
-      placed .before .if1 .left,
-      ← found .first-fault .ensures,
-      ← found .before .records .ensures,
+      judged _ whole (found .first-fault .ensures) (found .before .records .ensures) (placed .windows .ensures),
       lt-ltb _ _ (c .before .if2 .taken),
       ← c .fault .ensures,
     )
 
 returns-3 : tie.Need-returns-3
-unfolding loadOf
 returns-3 c =
     let found = c .before .before in
     let placed = found .before .before .before in
+    let whole = sym (placed .before .before .length-fault .ensures) ∙ placed .before .if1 .left in
     rw (
-      ← placed .before .before .length-fault .ensures,
-      placed .before .if1 .left,
-      ← found .first-fault .ensures,
-      ← found .before .records .ensures,
+      judged _ whole (found .first-fault .ensures) (found .before .records .ensures) (placed .windows .ensures),
       le-ltb _ _ (c .before .if2 .left),
-      ← placed .windows .ensures,
       eq-eqb _ 0 (c .if3 .taken),
     )
 
 returns-4 : tie.Need-returns-4
-unfolding loadOf
 returns-4 c =
     let found = c .before .before in
     let placed = found .before .before .before in
+    let whole = sym (placed .before .before .length-fault .ensures) ∙ placed .before .if1 .left in
     rw (
-      ← placed .before .before .length-fault .ensures,
-      placed .before .if1 .left,
-      ← found .first-fault .ensures,
-      ← found .before .records .ensures,
+      judged _ whole (found .first-fault .ensures) (found .before .records .ensures) (placed .windows .ensures),
       le-ltb _ _ (c .before .if2 .left),
-      ← placed .windows .ensures,
       ne-eqb _ 0 (c .if3 .left),
     )
 
