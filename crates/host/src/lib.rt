@@ -11,7 +11,7 @@ ghost use Rattle.host.specs.Contracts.{HostLoad, HostRecord, HostTest, H
 mod layout;
 
 use kernel::Ran;
-use tables::Verdict;
+use loader::Verdict;
 
 // How many bytes a state has.
 pub const STATE_SIZE: usize = 36120;

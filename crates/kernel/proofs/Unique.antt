@@ -4,7 +4,7 @@ use Prim.Native.Nat.{ℕ}
 use mathlib.Core.Path.{_≡_, sym, _∙_}
 use mathlib.Core.Bool.{Bool}
 use mathlib.Core.List.{List}
-use Rattle.tables.proofs.Unique as Verdicts
+use Rattle.loader.proofs.Unique as Verdicts
 use Rattle.states.specs.declared.State.{State}
 use Rattle.kernel.specs.declared.Loaded.{Loaded}
 use Rattle.kernel.specs.declared.Ran.{Ran}

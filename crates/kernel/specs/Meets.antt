@@ -13,7 +13,7 @@ use Rattle.model.specs.State as model
 use Rattle.model.specs.Events.{eventSize}
 use Rattle.model.specs.Answers.{stretch, handed}
 use Rattle.model.specs.Run.{answers, afterAll, eventsOf, joined, listFault}
-use Rattle.tables.specs.Shown.{verdictOf}
+use Rattle.loader.specs.Shown.{verdictOf}
 use Rattle.states.specs.declared.State.{State}
 use Rattle.states.specs.Shown.{shownState, stateFits, atLoad, allZero}
 use Rattle.states.specs.Settled.{settledNumbers, settledBytes}

@@ -5,10 +5,10 @@ ghost use Rattle.kernel.specs.Meets.{LoadMeets, TestMeets, RunMeets, Ste
 mod lists;
 mod reader;
 
+use loader::Verdict;
 pub use reader::place;
 pub use reader::read;
 use states::State;
-use tables::Verdict;
 
 // What a load gives: the verdict, and the state beside it.
 pub struct Loaded {
@@ -26,7 +26,7 @@ pub struct Ran {
 pub fn load(t: &[u8]) -> Loaded
     ensures { λ r. ⌜ LoadMeets (now (t .entry)) r ⌝ }
 {
-    let verdict = tables::judge(t);
+    let verdict = loader::judge(t);
     match verdict {
         Verdict::Accepted => Loaded {
             verdict,

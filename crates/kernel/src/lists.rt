@@ -10,9 +10,9 @@ ghost use Rattle.states.specs.Shown.{stateFits};
 ghost use Rattle.kernel.specs.Meets.{isSound, ListMeets, CarriedOut};
 use super::Ran;
 use events::Clock;
+use loader::Verdict;
 use services::Layout;
 use states::State;
-use tables::Verdict;
 
 // How many windows, ports and channels there are.
 fn layout(t: &[u8]) -> Layout
@@ -28,7 +28,7 @@ fn layout(t: &[u8]) -> Layout
 fn is_accepted(t: &[u8]) -> bool
     ensures { λ r. ⌜ r ≡ accepts (now (t .entry)) ⌝ }
 {
-    let verdict = tables::judge(t);
+    let verdict = loader::judge(t);
     match verdict {
         Verdict::Accepted => true,
         Verdict::Refused(_, _) => false,

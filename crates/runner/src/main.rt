@@ -4,8 +4,8 @@ ghost use Prim.Native.Nat.{_+_, _*_, _^_, _≤_, _<_};
 ghost use lib.ListN.{length};
 use libc::STDIN_FILENO;
 use libc::STDOUT_FILENO;
+use loader::Verdict;
 use states::State;
-use tables::Verdict;
 
 // What a turn leaves: the state, and whether there may be more events.
 struct Turned {

@@ -1,17 +1,13 @@
--- The tests that the loader's searches carry out, by name, and each search as its loop begins it: up to an end, from where it stands.
+-- The tests that the searches over bytes carry out, by name, and each search as its loop begins it: up to an end, from where it stands.
 -- Assumes nothing.
-use Prim.Native.Nat.{ℕ, suc, _+_, _-_}
+use Prim.Native.Nat.{ℕ, _+_, _-_}
 use mathlib.Core.Path.{_≡_, refl}
-use mathlib.Core.Bool.{Bool, _||_, not}
+use mathlib.Core.Bool.{Bool}
 use mathlib.Core.List.{List}
-use native.Mathlib.Nat.{add-sub-cancel-left, sub-zero}
-use native.Mathlib.Numerals.{add-one}
-use native.Mathlib.Omega.{arith}
+use native.Mathlib.Nat.{add-sub-cancel-left}
 use lib.Dec.{eqb}
-use Rattle.model.specs.Words.{any, all, byte, blank}
-use Rattle.model.specs.Tables.{Tables, sameName, endAt}
-use Rattle.model.specs.Load.{ends, endFits, namedAmong, namedBefore}
-use Rattle.tables.specs.Pieces.{unusedBlank, destinationsFit, namedAgain}
+use Rattle.model.specs.Words.{all, byte, blank}
+use Rattle.model.specs.Tables.{sameName}
 
 -- a byte is zero
 abbrev pub isZero : List ℕ → ℕ → Bool
@@ -20,20 +16,6 @@ isZero t k = eqb (byte t k) 0
 pub blank-whole : (t : List ℕ) (n at : ℕ) → blank t n at ≡ all (isZero t) (at + n - at) at
 blank-whole t n at = rw add-sub-cancel-left
 
--- an id of a channel is zero
-abbrev pub isUnused : Tables → ℕ → ℕ → Bool
-isUnused t r j = eqb (endAt t r j) 0
-
-after-count : (count : ℕ) → 9 - suc count ≡ 8 - count
-after-count count = omega arith
-
-pub unused-whole : (t : Tables) (r count : ℕ) → unusedBlank t r count ≡ all (isUnused t r) (9 - (count + 1)) (count + 1)
-unused-whole t r count = rw (add-one, after-count)
-
--- after a zero of a name comes a zero
-abbrev pub follows : Tables → ℕ → ℕ → Bool
-follows t at k = not (eqb (byte t (at + k)) 0) || eqb (byte t (at + suc k)) 0
-
 -- two names have the same byte at a place
 abbrev pub sameAt : List ℕ → ℕ → List ℕ → ℕ → ℕ → Bool
 sameAt a at b bt k = eqb (byte a (at + k)) (byte b (bt + k))
@@ -41,25 +23,3 @@ sameAt a at b bt k = eqb (byte a (at + k)) (byte b (bt + k))
 pub name-whole : (a : List ℕ) (at : ℕ) (b : List ℕ) (bt : ℕ) → sameName a at b bt ≡ all (sameAt a at b bt) 30 0
 unfolding sameName
 name-whole a at b bt = refl
-
--- past end 0 the destinations are left
-after-source : (end count : ℕ) → end ≡ suc count → end - 1 ≡ count
-after-source end count e = omega arith
-
-pub destinations-whole : (t : Tables) (r end : ℕ) → end ≡ ends t r → destinationsFit t r ≡ all (endFits t r) (end - 1) 1
-destinations-whole t r end e = rw (after-source _ _ e)
-
--- an end of a channel is the id
-abbrev pub isEnd : Tables → ℕ → ℕ → ℕ → Bool
-isEnd t id q i = eqb (endAt t q i) id
-
-pub among-whole : (t : Tables) (id n q : ℕ) → namedAmong t id n q ≡ any (isEnd t id q) (n - 0) 0
-unfolding namedAmong
-among-whole t id n q = rw sub-zero
-
--- a channel names the id
-abbrev pub names : Tables → ℕ → ℕ → Bool
-names t id q = namedAmong t id (ends t q) q
-
-pub again-whole : (t : Tables) (r end : ℕ) → end ≡ ends t r → namedAgain t r ≡ any (namedBefore t r) (end - 0) 0
-again-whole t r end e = rw (sub-zero, e)

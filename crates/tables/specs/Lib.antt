@@ -1,5 +1,4 @@
--- What the contracts of the loader cite besides the model: the paper's numbers for the cases of its enums and for a decoded row, pieces of
--- the model's tests, and what a test may take as known. Definitions alone: nothing is assumed.
-pub mod Known
-pub mod Pieces
+-- What the contracts of the tables' readers cite besides the model: where a run of records ends, and the paper's numbers for the cases of
+-- an enum and for a decoded row. Definitions alone: nothing is assumed.
+pub mod Runs
 pub mod Shown

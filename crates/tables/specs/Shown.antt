@@ -1,21 +1,12 @@
--- What the code's values show of the model: a verdict, the mode of a port with what belongs to it, and a port row.
+-- What the code's values show of the model: the mode of a port with what belongs to it, and a port row.
 -- Assumes nothing.
 use Prim.Native.Nat.{ℕ}
 use lib.Dec.{eqb}
 use Rattle.model.specs.Words.{if_then_else_}
 use Rattle.model.specs.Tables.{sampling, queuing, Row}
-use Rattle.model.specs.Load.{accepted, refused}
-use Rattle.model.specs.Load as model
-use Rattle.tables.specs.declared.Verdict.{Verdict}
-use Rattle.tables.specs.declared.Verdict.the-variants.{Accepted, Refused}
 use Rattle.tables.specs.declared.Transfer.{Transfer}
 use Rattle.tables.specs.declared.Transfer.the-variants.{Sampling, Queuing}
 use Rattle.tables.specs.declared.PortRow.{PortRow}
-
--- the paper's number and record for each case of a verdict
-abbrev pub verdictOf : Verdict → model.Verdict
-verdictOf Accepted = accepted
-verdictOf (Refused number rec) = refused number rec
 
 -- the paper's mode, depth and refresh period for each case of a transfer
 abbrev pub modeOf : Transfer → ℕ

@@ -3,6 +3,7 @@
 ghost use Prim.Native.Nat.{_<_};
 ghost use mathlib.Core.Path.{_≡_};
 ghost use Rattle.model.specs.Tables.{records, kind, windows, portsEnd, ports, channels, windowPartition, windowLength};
+ghost use Rattle.tables.specs.Runs.{runEnd};
 use super::RECORD_SIZE;
 use super::bytes::word16;
 
@@ -20,14 +21,14 @@ pub fn kind(t: &[u8], r: usize) -> u8
     t[RECORD_SIZE * r]
 }
 
-// How many windows there are: the number of the first record that is none.
-pub fn windows(t: &[u8]) -> usize
-    ensures { λ n. ⌜ n ≡ windows (now (t .entry)) ⌝ }
+// Where the run of records of one kind that starts at a record ends: the number of the first record past it.
+fn run_end(t: &[u8], wanted: u8, start: usize) -> usize
+    ensures { λ n. ⌜ n ≡ runEnd wanted (now (t .entry)) start ⌝ }
 {
     let end = records(t);
-    let mut r = 0;
+    let mut r = start;
     while r < end {
-        if kind(t, r) != 1 {
+        if kind(t, r) != wanted {
             return r;
         }
         r += 1;
@@ -35,20 +36,19 @@ pub fn windows(t: &[u8]) -> usize
     r
 }
 
+// How many windows there are: the number of the first record that is none.
+pub fn windows(t: &[u8]) -> usize
+    ensures { λ n. ⌜ n ≡ windows (now (t .entry)) ⌝ }
+{
+    run_end(t, 1, 0)
+}
+
 // Where the ports that start at first_port end: the number of the first record past them.
 pub fn ports_end_from(t: &[u8], first_port: usize) -> usize
     requires { ⌜ «first_port» ≡ windows (now t) ⌝ }
     ensures { λ n. ⌜ n ≡ portsEnd (now (t .entry)) ⌝ }
 {
-    let end = records(t);
-    let mut r = first_port;
-    while r < end {
-        if kind(t, r) != 2 {
-            return r;
-        }
-        r += 1;
-    }
-    r
+    run_end(t, 2, first_port)
 }
 
 pub fn ports_end(t: &[u8]) -> usize

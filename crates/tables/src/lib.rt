@@ -1,20 +1,23 @@
-// The loader of 01, "Tables" and "Load refusals": the verdict on the caller's bytes, and the rows, counts and ends of the tables,
-// each read where it stands. Nothing is collected. A function's contract is an equation with the model, whose names it takes.
+// The tables of 01, "Tables": their rows, counts and channel ends, each read where it stands in the caller's bytes. Nothing is
+// collected, and nothing is judged: the crate `loader` does that. A function's contract is an equation with the model, whose names it
+// takes.
 mod bytes;
 mod channels;
-mod ends;
-mod fields;
 mod layout;
-mod load;
 mod names;
 mod rows;
 
+pub use bytes::blank;
+pub use bytes::wide;
 pub use bytes::word16;
+pub use bytes::word16_at;
 pub use bytes::word32;
 pub use channels::destination_count;
 pub use channels::destination_port;
+pub use channels::id_at;
 pub use channels::source_port;
 pub use layout::channel_count;
+pub use layout::kind;
 pub use layout::port_count;
 pub use layout::ports_end;
 pub use layout::ports_end_from;
@@ -22,27 +25,19 @@ pub use layout::records;
 pub use layout::window_length;
 pub use layout::window_partition;
 pub use layout::windows;
-pub use load::judge;
 pub use names::same_name;
 pub use rows::depth;
 pub use rows::mode;
 pub use rows::port_row;
 pub use rows::refresh;
+pub use rows::row_direction;
+pub use rows::row_largest;
+pub use rows::row_mode;
 
 // A record's size in bytes, and a name's.
 pub const RECORD_SIZE: usize = 48;
 
 pub const NAME_LENGTH: usize = 30;
-
-// "1 to 64 windows", "0 to 64 ports", "0 to 32 channels".
-pub const MOST_WINDOWS: usize = 64;
-
-pub const MOST_PORTS: usize = 64;
-
-pub const MOST_CHANNELS: usize = 32;
-
-// What stands for a partition in a mover window.
-pub const MOVER: u8 = 32;
 
 // The modes and the directions of a port.
 pub const SAMPLING: u8 = 0;
@@ -52,13 +47,6 @@ pub const QUEUING: u8 = 1;
 pub const SOURCE: u8 = 0;
 
 pub const DESTINATION: u8 = 1;
-
-// What a load says of tables. `verdictOf` of specs/Shown.antt gives the paper's number and record for each case.
-pub enum Verdict {
-    Accepted,
-    // the number of the refusal, 20 to 26, and the first offending record, counted from 0
-    Refused(u8, usize),
-}
 
 // "A port row is either sampling with its refresh period or queuing with its depth."
 pub enum Transfer {

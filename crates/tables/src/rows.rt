@@ -1,4 +1,4 @@
-// Port rows, decoded from their records where they are wanted.
+// Port rows, decoded from their records where they are wanted, and fields of rows as they stand.
 ghost use Prim.Native.Nat.{_<_};
 ghost use mathlib.Core.Path.{_≡_};
 ghost use Rattle.model.specs.Tables.{records, rowAt};
@@ -23,6 +23,28 @@ pub fn port_row(t: &[u8], r: usize) -> PortRow
         direction: t[at + 3],
         largest: word32(t, at + 4),
     }
+}
+
+// The mode, the direction and the largest message of the row in record r, in range or not.
+pub fn row_mode(t: &[u8], r: usize) -> u8
+    requires { ⌜ r < records (now t) ⌝ }
+    ensures { λ m. ⌜ m ≡ rowAt (now (t .entry)) r .mode ⌝ }
+{
+    t[RECORD_SIZE * r + 2]
+}
+
+pub fn row_direction(t: &[u8], r: usize) -> u8
+    requires { ⌜ r < records (now t) ⌝ }
+    ensures { λ d. ⌜ d ≡ rowAt (now (t .entry)) r .direction ⌝ }
+{
+    t[RECORD_SIZE * r + 3]
+}
+
+pub fn row_largest(t: &[u8], r: usize) -> u32
+    requires { ⌜ r < records (now t) ⌝ }
+    ensures { λ n. ⌜ n ≡ rowAt (now (t .entry)) r .largest ⌝ }
+{
+    word32(t, RECORD_SIZE * r + 4)
 }
 
 fn transfer_of(mode: u8, depth: u32, refresh: u32) -> Transfer

@@ -1,7 +1,7 @@
 // Runs the loader on the cases of data/cases.bin, which tests/make_table_cases.py writes, and prints each one's label and verdict.
 // A case is the label's length (1 byte), the table's length (2 bytes, low byte first), the label, and the table.
 use libc::STDOUT_FILENO;
-use tables::Verdict;
+use loader::Verdict;
 
 fn print_verdict(verdict: Verdict) {
     match verdict {
@@ -32,7 +32,7 @@ fn copy_label(fd: i32, n: u8) {
 
 fn judge_part(fd: i32, table: &mut [u8]) {
     let got = io::read_full(fd, table);
-    print_verdict(tables::judge(&table[..got]));
+    print_verdict(loader::judge(&table[..got]));
 }
 
 // Reads a table of low + 256 * high bytes and prints the verdict on it.

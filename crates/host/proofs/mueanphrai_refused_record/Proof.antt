@@ -1,6 +1,6 @@
 -- `host::mueanphrai_refused_record` meets its contract, by the verdict. Assumes nothing.
 use mathlib.Core.Path.{sym, _∙_, ap}
-use Rattle.tables.specs.Shown.{verdictOf}
+use Rattle.loader.specs.Shown.{verdictOf}
 use Rattle.host.specs.Contracts.{recordIn}
 use borrow.Author.Needs.{needs}
 use Rattle.host.proofs.mueanphrai_refused_record.Statement.{statement}

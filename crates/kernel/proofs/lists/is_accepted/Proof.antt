@@ -2,7 +2,7 @@
 use mathlib.Core.Path.{sym, _∙_, ap}
 use borrow.Author.Needs.{needs}
 use Rattle.model.specs.Load.{isAccepted, accepts}
-use Rattle.tables.specs.Shown.{verdictOf}
+use Rattle.loader.specs.Shown.{verdictOf}
 use borrow.Author.Needs.{needs}
 use Rattle.kernel.proofs.lists.is_accepted.Statement.{statement}
 use Rattle.kernel.proofs.lists.is_accepted.Tie as tie

@@ -1,0 +1,4 @@
+pub mod ChannelEnds
+pub mod Faults
+pub mod Searched
+pub mod Unique
