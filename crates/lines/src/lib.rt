@@ -15,12 +15,6 @@ ghost use Rattle.lines.specs.Text.{loadedLength};
 // An event's size, and an answer's.
 pub const EVENT_SIZE: usize = 80;
 
-// The runner takes at most so many records at a time.
-pub const MOST_RECORDS: usize = 400;
-
-// No line is longer.
-pub const MOST_LINE: usize = 318;
-
 // Of a longer tables.bin only so many bytes, 161 records, and the length are used.
 pub const MOST_TABLES: usize = 7_728;
 

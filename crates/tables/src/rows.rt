@@ -2,7 +2,7 @@
 ghost use Prim.Native.Nat.{_<_};
 ghost use mathlib.Core.Path.{_≡_};
 ghost use Rattle.model.specs.Tables.{records, rowAt};
-ghost use Rattle.tables.specs.Shown.{modeOf, depthOf, refreshOf, transferOf, decoded};
+ghost use Rattle.tables.specs.Shown.{modeOf, refreshOf, transferOf, decoded};
 use super::PortRow;
 use super::QUEUING;
 use super::RECORD_SIZE;
@@ -64,16 +64,6 @@ pub fn mode(transfer: Transfer) -> u8
     match transfer {
         Transfer::Sampling(_) => SAMPLING,
         Transfer::Queuing(_) => QUEUING,
-    }
-}
-
-// How many messages a queuing port keeps; 0 for a sampling port, as in its row.
-pub fn depth(transfer: Transfer) -> u32
-    ensures { λ r. ⌜ r ≡ depthOf transfer ⌝ }
-{
-    match transfer {
-        Transfer::Sampling(_) => 0,
-        Transfer::Queuing(messages) => messages,
     }
 }
 
