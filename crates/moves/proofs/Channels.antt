@@ -24,6 +24,7 @@ use Rattle.events.specs.declared.answers.Answer.{Answer}
 use Rattle.events.specs.Shown.{refusedAs, toldAs}
 use Rattle.stores.specs.declared.Letter.{Letter}
 use Rattle.stores.specs.Ring.{Sized, written, letterOf}
+use Rattle.stores.proofs.Lists.{length-filled}
 use Rattle.stores.proofs.Laws.{written-letter}
 use Rattle.ports.specs.Held
 use Rattle.ports.specs.Held.{storeAt, portAt, PortPut}
@@ -165,7 +166,7 @@ module _ {t : Tables} {lay : Layout} {numbers bytes : List ℕ} (h : Did.Held t 
 
           -- what is carried on fits, and what the source keeps is in range
           pub source-carried : Carried t c l
-          source-carried = record { short = rw (taken .0) short; fit = rw read fit }
+          source-carried = record { whole = ap (λ (x : Letter). length (x .bytes)) (taken .0) ∙ length-filled 64 (oldest .0); short = rw (taken .0) short; fit = rw read fit }
 
           pub source-held : length numbers₁ ≡ length numbers → Did.Held t lay numbers₁ bytes
           source-held same = held-put h (taken .1) (left-ranged sourceRow source (oldest .0) (oldest .1) (oldest .2) ranged) same refl

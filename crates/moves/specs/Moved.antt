@@ -4,6 +4,7 @@ use Prim.Native.Nat.{ℕ, _+_, _≤_}
 use mathlib.Core.Path.{_≡_}
 use mathlib.Core.Bool.{true}
 use mathlib.Core.List.{List}
+use lib.ListN.{length}
 use Rattle.model.specs.Tables.{Tables, Row, row, sourcePort, destinations}
 use Rattle.model.specs.State.{Message, Clock}
 use Rattle.model.specs.Services.{arrived, delivered, transmit}
@@ -20,8 +21,9 @@ abbrev pub Arrived : (time : ℕ) → Row → Message → (k : ℕ) → (numbers
 Arrived time r m k numbers bytes numbers' bytes' =
     PortPut numbers bytes numbers' bytes' k (arrived time r m (portAt numbers bytes k))
 
--- a letter of channel c: it is within its 64 bytes, and its message fits the source's row, so that it fits each destination's
+-- a letter of channel c: it has 64 bytes and is within them, and its message fits the source's row, so that it fits each destination's
 pub record Carried (t : Tables) (c : ℕ) (l : Letter) : Type 0 where
+  pub whole : length (l .bytes) ≡ 64
   pub short : l .size ≤ 64
   pub fit : fits (row t (sourcePort t c)) (written l) ≡ true
 

@@ -5,26 +5,34 @@ ghost use Prim.Native.Nat.{_<_, _≤_};
 ghost use lib.ListN.{length, getD};
 ghost use Rattle.model.specs.Tables.{row, destinations, destinationPort};
 ghost use Rattle.tables.specs.Shown.{rowOf};
-ghost use Rattle.stores.specs.Ring.{written};
+ghost use Rattle.stores.specs.Ring.{written, lettered};
 ghost use Rattle.ports.specs.Held;
 ghost use Rattle.services.specs.Served.{Fits};
 ghost use Rattle.services.specs.Did.{Held};
 ghost use Rattle.moves.specs.Moved.{Arrived, Carried, Delivered, Moved};
 use events::Answer;
 use services::Layout;
-use stores::Letter;
 use tables::PortRow;
 
 // One destination: nothing if it is not created; else it is stored or lost, and a sample has arrived now.
-fn arrive(numbers: &mut [u32], bytes: &mut [u8], time: u32, k: usize, row: PortRow, l: Letter)
+fn arrive(
+    numbers: &mut [u32],
+    bytes: &mut [u8],
+    time: u32,
+    k: usize,
+    row: PortRow,
+    letter: &[u8],
+    size: u32,
+)
     requires { ⌜ Fits (now numbers) (now bytes) k row ⌝ }
-    requires { ⌜ l .size ≤ 64 ⌝ }
-    ensures { λ _. ⌜ Arrived time (rowOf row) (written l) k (now (numbers .entry)) (now (bytes .entry)) (now (numbers .exit)) (now (bytes .exit)) ⌝ }
+    requires { ⌜ size ≤ 64 ⌝ }
+    requires { ⌜ length (now letter) ≡ 64 ⌝ }
+    ensures { λ _. ⌜ Arrived time (rowOf row) (written (lettered (now (letter .entry)) size)) k (now (numbers .entry)) (now (bytes .entry)) (now (numbers .exit)) (now (bytes .exit)) ⌝ }
 {
     if ports::number(numbers, k, ports::CREATED) == 0 {
         return;
     }
-    services::store(numbers, bytes, k, row, l);
+    services::store(numbers, bytes, k, row, letter, size);
     let transfer = row.transfer;
     // the arrival time of a queuing port is never touched
     if tables::mode(transfer) == 1 {
@@ -42,16 +50,17 @@ fn hand_on(
     time: u32,
     c: usize,
     j: usize,
-    l: Letter,
+    letter: &[u8],
+    size: u32,
 )
     requires { ⌜ Held (now t) lay (now numbers) (now bytes) ⌝ }
     requires { ⌜ (c < lay .channels) × (j < destinations (now t) c) ⌝ }
-    requires { ⌜ Carried (now t) c l ⌝ }
-    ensures { λ _. ⌜ Arrived time (row (now (t .entry)) (destinationPort (now (t .entry)) c j)) (written l) (destinationPort (now (t .entry)) c j) (now (numbers .entry)) (now (bytes .entry)) (now (numbers .exit)) (now (bytes .exit)) ⌝ }
+    requires { ⌜ Carried (now t) c (lettered (now letter) size) ⌝ }
+    ensures { λ _. ⌜ Arrived time (row (now (t .entry)) (destinationPort (now (t .entry)) c j)) (written (lettered (now (letter .entry)) size)) (destinationPort (now (t .entry)) c j) (now (numbers .entry)) (now (bytes .entry)) (now (numbers .exit)) (now (bytes .exit)) ⌝ }
 {
     let k = tables::destination_port(t, lay.windows + lay.ports, c, j);
     let row = tables::port_row(t, lay.windows + k);
-    arrive(numbers, bytes, time, k, row, l);
+    arrive(numbers, bytes, time, k, row, letter, size);
 }
 
 // The message handed to each destination in its turn.
@@ -62,17 +71,18 @@ fn deliver(
     bytes: &mut [u8],
     time: u32,
     c: usize,
-    l: Letter,
+    letter: &[u8],
+    size: u32,
 )
     requires { ⌜ Held (now t) lay (now numbers) (now bytes) ⌝ }
     requires { ⌜ c < lay .channels ⌝ }
-    requires { ⌜ Carried (now t) c l ⌝ }
-    ensures { λ _. ⌜ Delivered (now (t .entry)) time c (written l) (now (numbers .entry)) (now (bytes .entry)) (now (numbers .exit)) (now (bytes .exit)) ⌝ }
+    requires { ⌜ Carried (now t) c (lettered (now letter) size) ⌝ }
+    ensures { λ _. ⌜ Delivered (now (t .entry)) time c (written (lettered (now (letter .entry)) size)) (now (numbers .entry)) (now (bytes .entry)) (now (numbers .exit)) (now (bytes .exit)) ⌝ }
 {
     let n = tables::destination_count(t, lay.windows + lay.ports, c) as usize;
     let mut j: usize = 0;
     while j < n {
-        hand_on(t, lay, numbers, bytes, time, c, j, l);
+        hand_on(t, lay, numbers, bytes, time, c, j, letter, size);
         j = j + 1;
     }
 }
@@ -104,6 +114,6 @@ pub fn transmit(
         return events::refusal(1, doer);
     }
     let l = services::take_oldest(numbers, bytes, k);
-    deliver(t, lay, numbers, bytes, time, c, l);
+    deliver(t, lay, numbers, bytes, time, c, &l.bytes, l.size);
     events::done(doer)
 }

@@ -8,41 +8,56 @@ ghost use Rattle.model.specs.Events.{known};
 ghost use Rattle.model.specs.Services.{stored, put};
 ghost use Rattle.tables.specs.Shown.{rowOf};
 ghost use Rattle.events.specs.Shown.{callOf};
-ghost use Rattle.stores.specs.Ring.{written};
+ghost use Rattle.stores.specs.Ring.{written, lettered};
 ghost use Rattle.ports.specs.Held.{portAt, PortPut};
 ghost use Rattle.services.specs.Served.{Lent, Fits, Serves};
 use events::Answer;
 use events::Fields;
-use stores::Letter;
 use tables::PortRow;
 use tables::Transfer;
 
 // A message offered to a store: it is lost where the store holds its depth.
-pub fn offer(numbers: &mut [u32], bytes: &mut [u8], k: usize, depth: u32, l: Letter)
+pub fn offer(
+    numbers: &mut [u32],
+    bytes: &mut [u8],
+    k: usize,
+    depth: u32,
+    letter: &[u8],
+    size: u32,
+)
     requires { ⌜ Lent (now numbers) (now bytes) k ⌝ }
-    requires { ⌜ (depth ≤ 8) × (l .size ≤ 64) ⌝ }
-    ensures { λ _. ⌜ PortPut (now (numbers .entry)) (now (bytes .entry)) (now (numbers .exit)) (now (bytes .exit)) k (withQueue (portAt (now (numbers .entry)) (now (bytes .entry)) k) (offer depth (portAt (now (numbers .entry)) (now (bytes .entry)) k .queue) (written l))) ⌝ }
+    requires { ⌜ (depth ≤ 8) × (size ≤ 64) ⌝ }
+    requires { ⌜ length (now letter) ≡ 64 ⌝ }
+    ensures { λ _. ⌜ PortPut (now (numbers .entry)) (now (bytes .entry)) (now (numbers .exit)) (now (bytes .exit)) k (withQueue (portAt (now (numbers .entry)) (now (bytes .entry)) k) (offer depth (portAt (now (numbers .entry)) (now (bytes .entry)) k .queue) (written (lettered (now (letter .entry)) size)))) ⌝ }
 {
     if depth <= ports::number(numbers, k, ports::COUNT) {
         return;
     }
     let st = ports::take_store(numbers, bytes, k);
-    ports::put_store(numbers, bytes, k, stores::append(st, l));
+    ports::put_store(numbers, bytes, k, stores::append(st, letter, size));
 }
 
 // A sampling store keeps the new message alone; a queuing store takes it or loses it.
-pub fn store(numbers: &mut [u32], bytes: &mut [u8], k: usize, row: PortRow, l: Letter)
+pub fn store(
+    numbers: &mut [u32],
+    bytes: &mut [u8],
+    k: usize,
+    row: PortRow,
+    letter: &[u8],
+    size: u32,
+)
     requires { ⌜ Fits (now numbers) (now bytes) k row ⌝ }
-    requires { ⌜ l .size ≤ 64 ⌝ }
-    ensures { λ _. ⌜ PortPut (now (numbers .entry)) (now (bytes .entry)) (now (numbers .exit)) (now (bytes .exit)) k (withQueue (portAt (now (numbers .entry)) (now (bytes .entry)) k) (stored (rowOf row) (portAt (now (numbers .entry)) (now (bytes .entry)) k .queue) (written l))) ⌝ }
+    requires { ⌜ size ≤ 64 ⌝ }
+    requires { ⌜ length (now letter) ≡ 64 ⌝ }
+    ensures { λ _. ⌜ PortPut (now (numbers .entry)) (now (bytes .entry)) (now (numbers .exit)) (now (bytes .exit)) k (withQueue (portAt (now (numbers .entry)) (now (bytes .entry)) k) (stored (rowOf row) (portAt (now (numbers .entry)) (now (bytes .entry)) k .queue) (written (lettered (now (letter .entry)) size)))) ⌝ }
 {
     let transfer = row.transfer;
     match transfer {
         Transfer::Sampling(_) => {
-            ports::put_store(numbers, bytes, k, stores::append(stores::empty(), l));
+            ports::put_store(numbers, bytes, k, stores::append(stores::empty(), letter, size));
         }
         Transfer::Queuing(depth) => {
-            offer(numbers, bytes, k, depth, l);
+            offer(numbers, bytes, k, depth, letter, size);
         }
     }
 }
@@ -71,6 +86,6 @@ pub fn put(
         return events::refusal(5, doer);
     }
     let l = stores::letter_of(event, 16, f.size);
-    store(numbers, bytes, k, row, l);
+    store(numbers, bytes, k, row, &l.bytes, l.size);
     events::done(doer)
 }

@@ -35,6 +35,10 @@ queueOf st = messagesFrom st (st .count) 0
 abbrev pub written : Letter → Message
 written l = take (l .size) (l .bytes)
 
+-- a lent letter: its bytes and its length
+abbrev pub lettered : List ℕ → ℕ → Letter
+lettered bytes size = record { bytes = bytes; size = size }
+
 abbrev pub letterOf : Message → Letter
 letterOf m = record { bytes = filled slotSize m; size = length m }
 

@@ -3,7 +3,7 @@
 ghost use mathlib.Core.Path.{_≡_};
 ghost use Prim.Native.Nat.{_+_, _%_, _<_, _≤_};
 ghost use lib.ListN.{length, getD, take, drop};
-ghost use Rattle.stores.specs.Ring.{Sized, slots, slotSize, slotOf, pasted, letterOf, noMessages, appended, oldestOf, dropped, queueOf, layOut};
+ghost use Rattle.stores.specs.Ring.{Sized, slots, slotSize, slotOf, pasted, lettered, letterOf, noMessages, appended, oldestOf, dropped, queueOf, layOut};
 
 // A message on its way: its bytes, with zeros after them, and its length, at most 64.
 pub struct Letter {
@@ -49,7 +49,7 @@ fn slot(oldest: u32, i: u32) -> u32
 
 // The 64 bytes of a letter put into a store's bytes from `first` on, in place.
 // A proof is not told how long the list behind a lent array is, so the lengths are asked for.
-fn put(bytes: &mut [u8; 512], first: usize, letter: &[u8; 64])
+fn put(bytes: &mut [u8; 512], first: usize, letter: &[u8])
     requires { ⌜ (length (now bytes) ≡ 512) × (length (now letter) ≡ 64) ⌝ }
     requires { ⌜ first + slotSize ≤ 512 ⌝ }
     ensures { λ _. ⌜ now (bytes .exit) ≡ pasted (now (bytes .entry)) first (now (letter .entry)) ⌝ }
@@ -73,15 +73,16 @@ pub fn empty() -> Store
     }
 }
 
-// A letter put into the slot behind the last.
-pub fn append(st: Store, l: Letter) -> Store
+// A letter put into the slot behind the last. It is lent: by value its 64 bytes would be copied at each call on its way here.
+pub fn append(st: Store, letter: &[u8], size: u32) -> Store
     requires { ⌜ st .count < slots ⌝ }
-    ensures { λ r. ⌜ r ≡ appended st l ⌝ }
+    requires { ⌜ length (now letter) ≡ 64 ⌝ }
+    ensures { λ r. ⌜ r ≡ appended st (lettered (now (letter .entry)) size) ⌝ }
 {
     let at = slot(st.oldest, st.count) as usize;
     let mut next = st;
-    put(&mut next.bytes, 64 * at, &l.bytes);
-    next.lengths[at] = l.size;
+    put(&mut next.bytes, 64 * at, letter);
+    next.lengths[at] = size;
     next.count = st.count + 1;
     next
 }

@@ -4,7 +4,7 @@ use native.Mathlib.Omega.{arith}
 use Rattle.model.specs.State.{withQueue}
 use Rattle.model.specs.Services.{stored}
 use Rattle.tables.specs.Shown.{rowOf}
-use Rattle.stores.specs.Ring.{written}
+use Rattle.stores.specs.Ring.{written, lettered}
 use Rattle.ports.specs.Held.{portAt}
 use Rattle.ports.proofs.Ports.{put-is, put-kept}
 use Rattle.services.proofs.Holding.{created-is}
@@ -21,10 +21,10 @@ same-length c = search needs
 
 returns : tie.Need-returns
 returns c =
-    let a = c .before .before .before .before .before .args in
+    let a = c .before .before .before .before .before .before .args in
     let q = portAt (a .numbers .now) (a .bytes .now) (a .k) in
     let unmade : q .created ≡ 0 = omega (arith, c .if1 .taken, c .before .number .ensures, created-is (a .numbers .now) (a .bytes .now) (a .k)) in
-    put-is (put-kept (a .numbers .now) (a .bytes .now) (a .k)) (sym (arrived-uncreated (a .time) (rowOf (a .row)) (written (a .l)) q unmade))
+    put-is (put-kept (a .numbers .now) (a .bytes .now) (a .k)) (sym (arrived-uncreated (a .time) (rowOf (a .row)) (written (lettered (a .letter .now) (a .size))) q unmade))
 
 store-requires : tie.Need-store-requires
 store-requires c κs = search needs
@@ -40,11 +40,11 @@ same-length-3 c = search needs
 
 returns-2 : tie.Need-returns-2
 returns-2 c =
-    let a = c .before .before .before .before .before .before .before .before .before .before .before .before .before .before .args in
+    let a = c .before .before .before .before .before .before .before .before .before .before .before .before .before .before .before .args in
     let q = portAt (a .numbers .now) (a .bytes .now) (a .k) in
-    let made : q .created ≡ 1 = omega (arith, c .before .before .before .before .before .before .before .before .before .if1 .left, c .before .before .before .before .before .before .before .before .before .before .number .ensures, created-is (a .numbers .now) (a .bytes .now) (a .k), c .before .before .before .before .before .before .before .before .before .before .before .before .before .before .pre .0 .port .marked) in
+    let made : q .created ≡ 1 = omega (arith, c .before .before .before .before .before .before .before .before .before .if1 .left, c .before .before .before .before .before .before .before .before .before .before .number .ensures, created-is (a .numbers .now) (a .bytes .now) (a .k), c .before .before .before .before .before .before .before .before .before .before .before .before .before .before .before .pre .0 .port .marked) in
     let queuing : rowOf (a .row) .mode ≡ 1 = omega (arith, c .if2 .taken, c .before .mode .ensures) in
-    put-is {q = withQueue q (stored (rowOf (a .row)) (q .queue) (written (a .l)))} (c .before .before .before .before .before .before .store .ensures) (sym (arrived-queuing (a .time) (rowOf (a .row)) (written (a .l)) q made queuing))
+    put-is {q = withQueue q (stored (rowOf (a .row)) (q .queue) (written (lettered (a .letter .now) (a .size))))} (c .before .before .before .before .before .before .store .ensures) (sym (arrived-queuing (a .time) (rowOf (a .row)) (written (lettered (a .letter .now) (a .size))) q made queuing))
 
 set-number-requires : tie.Need-set-number-requires
 set-number-requires c κs = search needs
@@ -57,11 +57,11 @@ same-length-5 c = search needs
 
 returns-3 : tie.Need-returns-3
 returns-3 c =
-    let a = c .before .before .before .before .before .before .before .before .before .before .before .before .before .before .before .before .before .before .args in
+    let a = c .before .before .before .before .before .before .before .before .before .before .before .before .before .before .before .before .before .before .before .args in
     let q = portAt (a .numbers .now) (a .bytes .now) (a .k) in
-    let made : q .created ≡ 1 = omega (arith, c .before .before .before .before .before .before .before .before .before .before .before .before .before .if1 .left, c .before .before .before .before .before .before .before .before .before .before .before .before .before .before .number .ensures, created-is (a .numbers .now) (a .bytes .now) (a .k), c .before .before .before .before .before .before .before .before .before .before .before .before .before .before .before .before .before .before .pre .0 .port .marked) in
-    let sampling : rowOf (a .row) .mode ≡ 0 = omega (arith, c .before .before .before .before .if2 .left, c .before .before .before .before .before .mode .ensures, mode-bit (a .row) (c .before .before .before .before .before .before .before .before .before .before .before .before .before .before .before .before .before .before .pre .0 .ranges)) in
-    put-is (put-stamped {q = withQueue q (stored (rowOf (a .row)) (q .queue) (written (a .l)))} (c .before .before .before .before .before .before .before .before .before .before .store .ensures) (c .before .before .set-number .ensures)) (sym (arrived-sampling (a .time) (rowOf (a .row)) (written (a .l)) q made sampling))
+    let made : q .created ≡ 1 = omega (arith, c .before .before .before .before .before .before .before .before .before .before .before .before .before .if1 .left, c .before .before .before .before .before .before .before .before .before .before .before .before .before .before .number .ensures, created-is (a .numbers .now) (a .bytes .now) (a .k), c .before .before .before .before .before .before .before .before .before .before .before .before .before .before .before .before .before .before .before .pre .0 .port .marked) in
+    let sampling : rowOf (a .row) .mode ≡ 0 = omega (arith, c .before .before .before .before .if2 .left, c .before .before .before .before .before .mode .ensures, mode-bit (a .row) (c .before .before .before .before .before .before .before .before .before .before .before .before .before .before .before .before .before .before .before .pre .0 .ranges)) in
+    put-is (put-stamped {q = withQueue q (stored (rowOf (a .row)) (q .queue) (written (lettered (a .letter .now) (a .size))))} (c .before .before .before .before .before .before .before .before .before .before .store .ensures) (c .before .before .set-number .ensures)) (sym (arrived-sampling (a .time) (rowOf (a .row)) (written (lettered (a .letter .now) (a .size))) q made sampling))
 
 pub arrive-spec : {M : Type 1} → statement M
 arrive-spec =

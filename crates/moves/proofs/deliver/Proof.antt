@@ -9,52 +9,52 @@ use lib.ListN.{length}
 use Rattle.model.specs.Tables.{destinations}
 use Rattle.model.specs.State.{Clock}
 use Rattle.model.specs.Services.{delivered}
-use Rattle.stores.specs.Ring.{written}
+use Rattle.stores.specs.Ring.{written, lettered}
 use Rattle.services.specs.Did.{Held, shown}
 use Rattle.moves.proofs.Channels.{few-records, first-channel, its-record, few-destinations, held-on, turn}
 use Rattle.moves.proofs.deliver.Statement.{statement}
 use Rattle.moves.proofs.deliver.Tie as tie
 
 abbrev Inv-loop : tie.InvT-loop
-Inv-loop t lay numbers₀ bytes₀ time c l n j₀ numbers bytes j =
+Inv-loop t lay numbers₀ bytes₀ time c letter size n j₀ numbers bytes j =
     (n ≡ destinations t c)
     × Held t lay numbers bytes
     × (length numbers ≡ length numbers₀)
     × (length bytes ≡ length bytes₀)
-    × ((clock : Clock) (modes : List ℕ) → delivered t (λ k. time) c (written l) (n - j) j (shown t clock modes numbers bytes) ≡ delivered t (λ k. time) c (written l) n 0 (shown t clock modes numbers₀ bytes₀))
+    × ((clock : Clock) (modes : List ℕ) → delivered t (λ k. time) c (written (lettered letter size)) (n - j) j (shown t clock modes numbers bytes) ≡ delivered t (λ k. time) c (written (lettered letter size)) n 0 (shown t clock modes numbers₀ bytes₀))
 
 abbrev μ-loop : tie.MeasureT-loop
-μ-loop t lay numbers₀ bytes₀ time c l n j₀ numbers bytes j = n - j
+μ-loop t lay numbers₀ bytes₀ time c letter size n j₀ numbers bytes j = n - j
 
 add-destination-count : tie.Need-add-destination-count Inv-loop μ-loop
 add-destination-count c =
-    let a = c .before .before .before .before .args in
-    omega (arith, few-records (c .before .before .before .before .pre .0) (a .c) (c .before .before .before .before .pre .1 .0))
+    let a = c .before .before .before .before .before .args in
+    omega (arith, few-records (c .before .before .before .before .before .pre .0) (a .c) (c .before .before .before .before .before .pre .1 .0))
 
 destination-count-requires : tie.Need-destination-count-requires Inv-loop μ-loop
 destination-count-requires c κs =
-    let a = c .before .before .before .before .args in
-    (first-channel (c .before .before .before .before .pre .0) (a .c) (c .before .before .before .before .pre .1 .0), its-record (c .before .before .before .before .pre .0) (a .c) (c .before .before .before .before .pre .1 .0))
+    let a = c .before .before .before .before .before .args in
+    (first-channel (c .before .before .before .before .before .pre .0) (a .c) (c .before .before .before .before .before .pre .1 .0), its-record (c .before .before .before .before .before .pre .0) (a .c) (c .before .before .before .before .before .pre .1 .0))
 
 cast-n : tie.Need-cast-n Inv-loop μ-loop
 cast-n c =
-    let a = c .before .before .before .before .before .args in
-    omega (arith, c .destination-count .ensures, few-destinations (c .before .before .before .before .before .pre .0) (a .c) (c .before .before .before .before .before .pre .1 .0))
+    let a = c .before .before .before .before .before .before .args in
+    omega (arith, c .destination-count .ensures, few-destinations (c .before .before .before .before .before .before .pre .0) (a .c) (c .before .before .before .before .before .before .pre .1 .0))
 
 loop-holds : tie.Need-loop-holds Inv-loop μ-loop
 loop-holds c =
-    let a = c .before .before .before .before .before .args in (
+    let a = c .before .before .before .before .before .before .args in (
       c .destination-count .ensures,
-      c .before .before .before .before .before .pre .0,
+      c .before .before .before .before .before .before .pre .0,
       refl,
       refl,
-      λ clock modes. ap (λ i. delivered (a .t .now) (λ k. a .time) (a .c) (written (a .l)) i 0 (shown (a .t .now) clock modes (a .numbers .now) (a .bytes .now))) (sub-zero (c .destination-count .result)),
+      λ clock modes. ap (λ i. delivered (a .t .now) (λ k. a .time) (a .c) (written (lettered (a .letter .now) (a .size))) i 0 (shown (a .t .now) clock modes (a .numbers .now) (a .bytes .now))) (sub-zero (c .destination-count .result)),
     )
 
 hand-on-requires : tie.Need-hand-on-requires Inv-loop μ-loop
 hand-on-requires c κs =
     let l = c .before .before .before .loop in
-    (l .inv .1, ((c .before .before .before .before .before .before .before .before .before .pre .1 .0, omega (arith, l .inv .0, c .before .before .loop-test .taken)), c .before .before .before .before .before .before .before .before .before .pre .1 .1))
+    (l .inv .1, ((c .before .before .before .before .before .before .before .before .before .before .pre .1 .0, omega (arith, l .inv .0, c .before .before .loop-test .taken)), c .before .before .before .before .before .before .before .before .before .before .pre .1 .1))
 
 add-j : tie.Need-add-j Inv-loop μ-loop
 add-j c = search needs
@@ -65,16 +65,16 @@ loop-less c = search needs
 loop-again : tie.Need-loop-again Inv-loop μ-loop
 loop-again c =
     let l = c .before .before .before .before .before .before .before .before .loop in
-    let a = c .before .before .before .before .before .before .before .before .before .before .before .before .before .before .args in
+    let a = c .before .before .before .before .before .before .before .before .before .before .before .before .before .before .before .args in
     let n = c .before .before .before .before .before .before .before .before .before .destination-count .result in
     let more : l .j < n = c .before .before .before .before .before .before .before .loop-test .taken in
     let few : l .j < destinations (a .t .now) (a .c) = omega (arith, l .inv .0, more) in
     let put = c .before .before .before .before .hand-on in (
       l .inv .0,
-      held-on (l .inv .1) (a .c) (c .before .before .before .before .before .before .before .before .before .before .before .before .before .before .pre .1 .0) (l .j) few (a .time) (c .before .before .before .before .before .before .before .before .before .before .before .before .before .before .pre .1 .1) (put .ensures) (put .kept .1 .1 .0) (put .kept .1 .1 .1 .0),
+      held-on (l .inv .1) (a .c) (c .before .before .before .before .before .before .before .before .before .before .before .before .before .before .before .pre .1 .0) (l .j) few (a .time) (c .before .before .before .before .before .before .before .before .before .before .before .before .before .before .before .pre .1 .1) (put .ensures) (put .kept .1 .1 .0) (put .kept .1 .1 .1 .0),
       put .kept .1 .1 .0 ∙ l .inv .2,
       put .kept .1 .1 .1 .0 ∙ l .inv .3,
-      λ clock modes. turn (l .inv .1) (a .c) (c .before .before .before .before .before .before .before .before .before .before .before .before .before .before .pre .1 .0) (l .j) few (a .time) (written (a .l)) (put .ensures) n more clock modes ∙ l .inv .4 clock modes,
+      λ clock modes. turn (l .inv .1) (a .c) (c .before .before .before .before .before .before .before .before .before .before .before .before .before .before .before .pre .1 .0) (l .j) few (a .time) (written (lettered (a .letter .now) (a .size))) (put .ensures) n more clock modes ∙ l .inv .4 clock modes,
     )
 
 same-length : tie.Need-same-length Inv-loop μ-loop
@@ -86,10 +86,10 @@ same-length-2 c = search needs
 returns : tie.Need-returns Inv-loop μ-loop
 returns c = λ clock modes.
     let l = c .before .loop in
-    let a = c .before .before .before .before .before .before .before .args in
+    let a = c .before .before .before .before .before .before .before .before .args in
     let n = c .before .before .destination-count .result in
     let none : n - l .j ≡ 0 = omega (arith, c .loop-test .left) in
-    let m = written (a .l) in
+    let m = written (lettered (a .letter .now) (a .size)) in
     let s = shown (a .t .now) clock modes in
     ap (λ i. delivered (a .t .now) (λ k. a .time) (a .c) m i (l .j) (s (l .numbers) (l .bytes))) (sym none)
     ∙ l .inv .4 clock modes

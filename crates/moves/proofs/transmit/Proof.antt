@@ -52,12 +52,12 @@ take-oldest-requires c κs =
 
 deliver-requires : tie.Need-deliver-requires
 deliver-requires c κs =
-    let s = c .before .before .before .before .before .before .before .before .before .before .before .before .before .before .before in
-    let found = c .before .before .before .before .before .before .before .before .before .before .source-port .ensures in
-    let counted = c .before .before .before .before .before .before .before .before .waiting .ensures in
-    let some = c .before .before .before .before .before .before .before .if1 .left in
-    let gone = c .before .before .before .before .take-oldest .ensures in
-    (source-held (s .pre .0) (s .args .c) (s .pre .1) found counted some gone (c .before .before .before .before .take-oldest .kept .0), (s .pre .1, source-carried (s .pre .0) (s .args .c) (s .pre .1) found counted some gone))
+    let s = c .before .before .before .before .before .before .before .before .before .before .before .before .before .before .before .before .before .before in
+    let found = c .before .before .before .before .before .before .before .before .before .before .before .before .before .source-port .ensures in
+    let counted = c .before .before .before .before .before .before .before .before .before .before .before .waiting .ensures in
+    let some = c .before .before .before .before .before .before .before .before .before .before .if1 .left in
+    let gone = c .before .before .before .before .before .before .before .take-oldest .ensures in
+    (source-held (s .pre .0) (s .args .c) (s .pre .1) found counted some gone (c .before .before .before .before .before .before .before .take-oldest .kept .0), (s .pre .1, source-carried (s .pre .0) (s .args .c) (s .pre .1) found counted some gone))
 
 done-requires : tie.Need-done-requires
 done-requires c κs = search needs
@@ -70,11 +70,11 @@ same-length-3 c = search needs
 
 returns-2 : tie.Need-returns-2
 returns-2 c =
-    let s = c .before .before .before .before .before .before .before .before .before .before .before .before .before .before .before .before .before .before .before .before .before in
+    let s = c .before .before .before .before .before .before .before .before .before .before .before .before .before .before .before .before .before .before .before .before .before .before .before .before in
     let last = c .before .before .before .before .before .deliver .last in
-    let counted = c .before .before .before .before .before .before .before .before .before .before .before .before .before .before .waiting .ensures in
-    let some = c .before .before .before .before .before .before .before .before .before .before .before .before .before .if1 .left in
-    moved (s .pre .0) (s .args .c) (s .pre .1) (c .before .before .before .before .before .before .before .before .before .before .before .before .before .before .before .before .source-port .ensures) counted some (c .before .before .before .before .before .before .before .before .before .before .take-oldest .ensures) (s .args .time) (last .1 .1 .0) (last .1 .1 .1 .0) (c .before .before .before .before .before .deliver .ensures) (c .done .ensures)
+    let counted = c .before .before .before .before .before .before .before .before .before .before .before .before .before .before .before .before .before .waiting .ensures in
+    let some = c .before .before .before .before .before .before .before .before .before .before .before .before .before .before .before .before .if1 .left in
+    moved (s .pre .0) (s .args .c) (s .pre .1) (c .before .before .before .before .before .before .before .before .before .before .before .before .before .before .before .before .before .before .before .source-port .ensures) counted some (c .before .before .before .before .before .before .before .before .before .before .before .before .before .take-oldest .ensures) (s .args .time) (last .1 .1 .0) (last .1 .1 .1 .0) (c .before .before .before .before .before .deliver .ensures) (c .done .ensures)
 
 pub transmit-spec : {M : Type 1} → statement M
 transmit-spec =

@@ -31,9 +31,9 @@ add-next c = search needs
 returns : tie.Need-returns
 unfolding appended
 returns c =
-    let st = c .before .before .before .before .before .before .args .st in
-    let bytes = c .before .before .before .before .before .before .args .t2 .bytes in
-    let here : c .before .before .before .before .before .slot .result ≡ slotOf st (st .count) = c .before .before .before .before .before .slot .ensures in
+    let st = c .before .before .before .before .before .args .st in
+    let bytes = c .before .before .before .before .before .args .letter .now in
+    let here : c .before .before .before .slot .result ≡ slotOf st (st .count) = c .before .before .before .slot .ensures in
     let stored : c .before .put .last .0 ≡ pasted (st .bytes) (64 * slotOf st (st .count)) bytes =
     c .before .put .ensures ∙ rw here
     in

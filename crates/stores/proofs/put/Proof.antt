@@ -20,8 +20,8 @@ abbrev μ-loop : tie.MeasureT-loop
 loop-holds : tie.Need-loop-holds Inv-loop μ-loop
 loop-holds c = (search needs, search needs, paste-zero (now (c .args .bytes)) (c .args .first) (now (c .args .letter)))
 
-element-copy-out-bytes : tie.Need-element-copy-out-bytes Inv-loop μ-loop
-element-copy-out-bytes c = search needs
+shared-slice-read-bytes : tie.Need-shared-slice-read-bytes Inv-loop μ-loop
+shared-slice-read-bytes c = search needs
 
 add-bytes : tie.Need-add-bytes Inv-loop μ-loop
 add-bytes c = search needs
@@ -65,7 +65,7 @@ put-spec =
     Inv-loop
     μ-loop
     loop-holds
-    element-copy-out-bytes
+    shared-slice-read-bytes
     add-bytes
     element-write-bytes
     add-i

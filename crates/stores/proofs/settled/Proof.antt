@@ -73,7 +73,7 @@ mul-put c = search needs
 
 put-requires : tie.Need-put-requires Inv-loop μ-loop
 put-requires c κs =
-    let head = c .before .before .before .before .before .before .before .before .before .before in
+    let head = c .before .before .before .before .before .before .before .before .before .before .before in
     let queue : List Message = queueOf (head .before .args .t1) in
     let wide : length (head .loop .bytes) ≡ 512 =
     ap (λ st. length (st .bytes)) (head .loop .inv .1) ∙ layOut-bytes (take (head .loop .i) queue)
@@ -95,12 +95,12 @@ loop-less c = search needs
 
 loop-again : tie.Need-loop-again Inv-loop μ-loop
 loop-again c =
-    let head = c .before .before .before .before .before .before .before .before .before .before .before in
+    let head = c .before .before .before .before .before .before .before .before .before .before .before .before in
     let st = head .before .args .t1 in
     let i : ℕ = head .loop .i in
     let few : st .count ≤ 8 = head .before .pre .few in
     let more : i < st .count = omega arith in
-    let read = c .before .before .before .before in
+    let read = c .before .before .before .before .before in
     let letter : read .letter-of .result ≡ letterOf (messageIn st (slotOf st i)) =
     read .letter-of .ensures
     ∙ ap (λ at. letterOf (take (getD (st .lengths) at 0) (drop (64 * at) (st .bytes)))) (read .before .before .before .before .before .slot .ensures)

@@ -3,12 +3,14 @@ use Prim.Native.Nat.{_≤_}
 use mathlib.Core.Path.{sym, _∙_, ap, subst}
 use native.Mathlib.Omega.{arith}
 use borrow.Author.Tests.{not-true, not-false}
+use lib.ListN.{length, take, drop}
 use Rattle.model.specs.State.{withQueue}
 use Rattle.model.specs.Services.{stored}
 use Rattle.tables.specs.Shown.{rowOf}
 use Rattle.events.specs.Shown.{callOf}
 use Rattle.stores.specs.declared.Letter.{Letter}
 use Rattle.stores.specs.Ring.{written}
+use Rattle.stores.proofs.Lists.{length-filled}
 use Rattle.ports.specs.Held.{portAt}
 use Rattle.ports.proofs.Ports.{put-is}
 use Rattle.services.proofs.Laws.{few-written, written-back}
@@ -51,8 +53,13 @@ letter-of-requires c κs =
 
 store-requires : tie.Need-store-requires
 store-requires c κs =
-    let few = c .before .before .before .before .before .before .before .before .before .before .before .before .before .pre .0 .ranges .fewBytes in
-    (c .before .before .before .before .before .before .before .before .before .before .before .before .before .pre .0, subst (λ (l : Letter). l .size ≤ 64) (sym (c .before .before .letter-of .ensures)) (few-written (c .before .before .before .before .before .before .before .before .before .before .before .before .before .args .event .now) (c .before .before .before .before .before .before .before .before .before .before .before .before .before .args .f .size) (omega (arith, c .before .before .before .before .before .if2 .left, few))))
+    let s = c .before .before .before .before .before .before .before .before .before .before .before .before .before .before .before .before in
+    let letter = c .before .before .before .before .before .letter-of .ensures in
+    let few : s .args .f .size ≤ 64 = omega (arith, c .before .before .before .before .before .before .before .before .if2 .left, s .pre .0 .ranges .fewBytes) in (
+      s .pre .0,
+      (subst (λ (l : Letter). l .size ≤ 64) (sym letter) (few-written (s .args .event .now) (s .args .f .size) few),
+      ap (λ (l : Letter). length (l .bytes)) letter ∙ length-filled 64 (take (s .args .f .size) (drop 16 (s .args .event .now)))),
+    )
 
 done-requires : tie.Need-done-requires
 done-requires c κs = search needs
@@ -65,14 +72,17 @@ same-length-2 c = search needs
 
 returns-4 : tie.Need-returns-4
 returns-4 c =
-    let a = c .before .before .before .before .before .before .before .before .before .before .before .before .before .before .before .before .before .before .before .args in
+    let a = c .before .before .before .before .before .before .before .before .before .before .before .before .before .before .before .before .before .before .before .before .before .before .args in
     let r = rowOf (a .row) in
     let e = a .event .now in
     let f = callOf (a .f) in
     let q = portAt (a .numbers .now) (a .bytes .now) (a .k) in
-    let few = c .before .before .before .before .before .before .before .before .before .before .before .before .before .before .before .before .before .before .before .pre .0 .ranges .fewBytes in
-    let long : a .f .size ≤ 64 = omega (arith, c .before .before .before .before .before .before .before .before .before .before .before .if2 .left, few) in
-    rw (put-stored r e f q (c .before .before .before .before .before .before .before .before .before .before .before .before .before .before .if1 .left) (c .before .before .before .before .before .before .before .before .before .before .before .if2 .left) (sym (c .before .before .before .before .before .before .before .before .before .before .directed .ensures) ∙ not-false _ (c .before .before .before .before .before .before .before .before .before .if3 .left))) (c .done .ensures, put-is (c .before .before .before .before .before .store .ensures) (ap (λ m. withQueue q (stored r (q .queue) m)) (ap written (c .before .before .before .before .before .before .before .before .letter-of .ensures) ∙ written-back e (a .f .size) long)))
+    let some = c .before .before .before .before .before .before .before .before .before .before .before .before .before .before .before .before .before .if1 .left in
+    let room = c .before .before .before .before .before .before .before .before .before .before .before .before .before .before .if2 .left in
+    let source = sym (c .before .before .before .before .before .before .before .before .before .before .before .before .before .directed .ensures) ∙ not-false _ (c .before .before .before .before .before .before .before .before .before .before .before .before .if3 .left) in
+    let letter = c .before .before .before .before .before .before .before .before .before .before .before .letter-of .ensures in
+    let long : a .f .size ≤ 64 = omega (arith, room, c .before .before .before .before .before .before .before .before .before .before .before .before .before .before .before .before .before .before .before .before .before .before .pre .0 .ranges .fewBytes) in
+    rw (put-stored r e f q some room source) (c .done .ensures, put-is {q = withQueue q (stored r (q .queue) (written (c .before .before .before .before .before .before .before .before .before .before .before .letter-of .result)))} (c .before .before .before .before .before .store .ensures) (ap (λ m. withQueue q (stored r (q .queue) m)) (ap written letter ∙ written-back e (a .f .size) long)))
 
 pub put-spec : {M : Type 1} → statement M
 put-spec =
