@@ -17,14 +17,7 @@ use tables::PortRow;
 use tables::Transfer;
 
 // A message offered to a store: it is lost where the store holds its depth.
-pub fn offer(
-    numbers: &mut [u32],
-    bytes: &mut [u8],
-    k: usize,
-    depth: u32,
-    letter: &[u8],
-    size: u32,
-)
+pub fn offer(numbers: &mut [u32], bytes: &mut [u8], k: usize, depth: u32, letter: &[u8], size: u32)
     requires { ⌜ Lent (now numbers) (now bytes) k ⌝ }
     requires { ⌜ (depth ≤ 8) × (size ≤ 64) ⌝ }
     requires { ⌜ length (now letter) ≡ 64 ⌝ }
@@ -54,7 +47,12 @@ pub fn store(
     let transfer = row.transfer;
     match transfer {
         Transfer::Sampling(_) => {
-            ports::put_store(numbers, bytes, k, stores::append(stores::empty(), letter, size));
+            ports::put_store(
+                numbers,
+                bytes,
+                k,
+                stores::append(stores::empty(), letter, size),
+            );
         }
         Transfer::Queuing(depth) => {
             offer(numbers, bytes, k, depth, letter, size);

@@ -57,8 +57,10 @@ store-requires c κs =
     let letter = c .before .before .before .before .before .letter-of .ensures in
     let few : s .args .f .size ≤ 64 = omega (arith, c .before .before .before .before .before .before .before .before .if2 .left, s .pre .0 .ranges .fewBytes) in (
       s .pre .0,
-      (subst (λ (l : Letter). l .size ≤ 64) (sym letter) (few-written (s .args .event .now) (s .args .f .size) few),
-      ap (λ (l : Letter). length (l .bytes)) letter ∙ length-filled 64 (take (s .args .f .size) (drop 16 (s .args .event .now)))),
+      (
+        subst (λ (l : Letter). l .size ≤ 64) (sym letter) (few-written (s .args .event .now) (s .args .f .size) few),
+        ap (λ (l : Letter). length (l .bytes)) letter ∙ length-filled 64 (take (s .args .f .size) (drop 16 (s .args .event .now))),
+      ),
     )
 
 done-requires : tie.Need-done-requires
