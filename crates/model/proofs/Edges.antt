@@ -5,15 +5,16 @@ use Prim.Native.Nat.{ℕ}
 use mathlib.Core.Path.{_≡_, refl}
 use mathlib.Core.Bool.{true}
 use mathlib.Core.List.{List, [], _∷_, _++_}
-use lib.ListN.{replicate}
+use lib.Dec.{eqb}
+use lib.ListN.{length, replicate}
 use Rattle.model.specs.Words.{zeros}
 use Rattle.model.specs.Tables.{Tables}
 use Rattle.model.specs.Load.{accepts}
-use Rattle.model.specs.State.{Message, Port, State, fresh}
+use Rattle.model.specs.State.{Message, Port, State, fresh, inRange}
 use Rattle.model.specs.Events.{Event, eventSize}
 use Rattle.model.specs.Step.{after}
-use Rattle.model.specs.Run.{step}
-use Rattle.model.proofs.Computing.{computing}
+use Rattle.model.specs.Run.{Ran, listFault, ranOr, step}
+use Rattle.model.proofs.Computing.{computing, stepping}
 use Rattle.model.proofs.Laid.{windowRow, portRow, channelRow, event, answerRow}
 
 pub record Edge : Type 0 where
@@ -23,13 +24,14 @@ pub record Edge : Type 0 where
   pub answered : List ℕ
   pub left : State
 
--- each row: the tables are accepted, and the step, with 80 bytes for the answer, gives just that
+-- a row holds: the tables are accepted, and the step, with 80 bytes for the answer, gives just that
+pub record Holds (x : Edge) : Type 0 where
+  pub accepted : accepts (x .tables) ≡ true
+  pub stepped : step (x .tables) (x .state) (x .asked) (zeros eventSize) ≡ record { refusal = 0; state = x .left; buffer = x .answered }
+
 pub data Hold : List Edge → Type 0 where
   none : Hold []
-  also :
-      {x : Edge} {xs : List Edge} → accepts (x .tables) ≡ true
-      → step (x .tables) (x .state) (x .asked) (zeros eventSize) ≡ record { refusal = 0; state = x .left; buffer = x .answered }
-      → Hold xs → Hold (x ∷ xs)
+  also : {x : Edge} {xs : List Edge} → Holds x → Hold xs → Hold (x ∷ xs)
 
 abbrev edge : Tables → State → Event → List ℕ → State → Edge
 edge t s e a s' = record { tables = t; state = s; asked = e; answered = a; left = s' }
@@ -107,8 +109,33 @@ edges =
     (state 2 7 (holding []) (record { created = 1; arrival = 7; validity = 0; queue = many 1 }))
     ∷ []
 
-pub edges-hold : Hold edges
+-- each of the four tables is accepted
+at-20 : accepts (samples 20) ≡ true
 unfolding computing
+at-20 = refl
+
+at-11 : accepts (samples 11) ≡ true
+unfolding computing
+at-11 = refl
+
+at-10 : accepts (samples 10) ≡ true
+unfolding computing
+at-10 = refl
+
+queued : accepts queues ≡ true
+unfolding computing
+queued = refl
+
+-- a row of accepted tables: its step is computed without another look at them
+row : {x : Edge} → accepts (x .tables) ≡ true
+    → ranOr (listFault (eqb (length (x .asked)) eventSize) (x .asked) (zeros eventSize) (inRange (x .tables) (x .state))) (x .tables) (x .state) (x .asked) (zeros eventSize)
+    ≡ record { refusal = 0; state = x .left; buffer = x .answered }
+    → Holds x
+unfolding step
+row ok given = record { accepted = ok; stepped = rw ok given }
+
+pub edges-hold : Hold edges
+unfolding stepping
 edges-hold =
-    also refl refl (also refl refl (also refl refl (also refl refl (also refl refl (also refl refl
-    (also refl refl (also refl refl (also refl refl (also refl refl (also refl refl none))))))))))
+    also (row at-20 refl) (also (row at-20 refl) (also (row at-11 refl) (also (row at-10 refl) (also (row queued refl) (also (row queued refl)
+    (also (row queued refl) (also (row queued refl) (also (row queued refl) (also (row queued refl) (also (row at-20 refl) none))))))))))

@@ -12,7 +12,6 @@ pub mod Reached
 pub mod Computing
 pub mod Searches
 pub mod Laid
-pub mod Worked
 pub mod Edges
 pub mod Branches
 pub mod Replies
@@ -29,4 +28,3 @@ pub mod MoveConditions
 pub mod Unwinding
 pub mod Conditions
 pub mod NonInterference
-pub mod WorkedFlow
