@@ -10,7 +10,7 @@ use lib.ListN.{length, getD, take, drop, set, length-append, length-drop, length
 use lib.Seq.{take-suc, sets-eq, drop-length, length-take-le}
 use Rattle.model.specs.Words.{word32, bytes32, zeros}
 use Rattle.stores.specs.Ring.{pasted}
-use Rattle.states.proofs.Parts.{pasted-behind}
+use Rattle.settling.proofs.Parts.{pasted-behind}
 use Rattle.states.specs.declared.State.{State}
 use Rattle.host.specs.Layout.{stateSize, numbersFrom, bytesOfAll, stateOf, bytesOf}
 

@@ -5,8 +5,8 @@ ghost use lib.ListN.{length};
 ghost use Rattle.model.specs.Words.{bytes32};
 ghost use Rattle.stores.specs.Ring.{pasted};
 ghost use Rattle.host.specs.Layout.{stateSize, numbersFrom, bytesOfAll, stateOf, bytesOf};
+use settling::lay_bytes;
 use states::State;
-use states::lay_bytes;
 use tables::word32;
 
 // The numbers that stand from a place on, as many as are asked for.

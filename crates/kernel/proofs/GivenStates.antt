@@ -25,9 +25,10 @@ use Rattle.model.proofs.Reached.{all-ranged}
 use Rattle.ports.specs.Held.{portsOf}
 use Rattle.services.proofs.Laws.{fits-at}
 use Rattle.states.specs.declared.State.{State}
-use Rattle.states.specs.Shown.{shownState, stateFits, indexed, atLoad, allZero}
-use Rattle.states.specs.Settled.{settledNumbers, settledBytes, Storable}
-use Rattle.states.proofs.Laws.{settled-shows, settled-indexed}
+use Rattle.ranges.specs.Tested.{indexed}
+use Rattle.states.specs.Shown.{shownState, stateFits, atLoad, allZero}
+use Rattle.settling.specs.Settled.{settledNumbers, settledBytes, Storable}
+use Rattle.states.proofs.Settled.{settled-shows, settled-indexed}
 use Rattle.states.proofs.Load.{load-shown, load-fits}
 use Rattle.kernel.specs.declared.Ran.{Ran}
 use Rattle.kernel.specs.Meets.{isSound, settledAs, stateAfter, answersAfter, ListMeets}

@@ -20,7 +20,8 @@ use Rattle.services.specs.declared.Layout.{Layout}
 use Rattle.services.specs.Did.{Laid}
 use Rattle.services.proofs.Holding.{held-of}
 use Rattle.states.specs.declared.State.{State}
-use Rattle.states.specs.Shown.{shownState, stateFits, indexed}
+use Rattle.ranges.specs.Tested.{indexed}
+use Rattle.states.specs.Shown.{shownState, stateFits}
 use Rattle.steps.specs.Stepped.{Ready}
 use Rattle.kernel.specs.Meets.{isSound, stateAfter, answersAfter, ListMeets, CarriedOut}
 

@@ -16,7 +16,7 @@ use Rattle.model.specs.Run.{answers, afterAll, eventsOf, joined, listFault}
 use Rattle.loader.specs.Shown.{verdictOf}
 use Rattle.states.specs.declared.State.{State}
 use Rattle.states.specs.Shown.{shownState, stateFits, atLoad, allZero}
-use Rattle.states.specs.Settled.{settledNumbers, settledBytes}
+use Rattle.settling.specs.Settled.{settledNumbers, settledBytes}
 use Rattle.kernel.specs.declared.Loaded.{Loaded}
 use Rattle.kernel.specs.declared.Ran.{Ran}
 use Rattle.kernel.specs.declared.reader.Stretch.{Stretch}

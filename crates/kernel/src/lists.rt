@@ -42,7 +42,7 @@ fn state_fits(t: &[u8], lay: Layout, state: State) -> bool
 {
     let modes = state.modes;
     let numbers = state.numbers;
-    states::in_range(t, lay, state.window, &modes, &numbers)
+    ranges::in_range(t, lay, state.window, &modes, &numbers)
 }
 
 pub fn sound(t: &[u8], state: State) -> bool
@@ -79,7 +79,7 @@ fn run_list(t: &[u8], lay: Layout, state: State, events: &[u8], answers: &mut [u
     );
     let mut settled_numbers = state.numbers;
     let mut settled_bytes = state.bytes;
-    states::put_together(
+    settling::put_together(
         &numbers,
         &bytes,
         lay.ports,

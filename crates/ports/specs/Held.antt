@@ -15,6 +15,13 @@ rowSize = 13
 abbrev pub blockSize : ℕ
 blockSize = 512
 
+-- how many numbers and how many message bytes all 64 ports have
+abbrev pub allNumbers : ℕ
+allNumbers = 832
+
+abbrev pub allBytes : ℕ
+allBytes = 32768
+
 -- the numbers of port k
 abbrev pub numbersFrom : List ℕ → ℕ → ℕ → List ℕ
 numbersFrom numbers zero at = []

@@ -1,5 +1,2 @@
-pub mod Judged
-pub mod Laid
-pub mod Laws
 pub mod Load
-pub mod Parts
+pub mod Settled

@@ -16,8 +16,9 @@ use Rattle.model.proofs.Accepted.{accepted}
 use Rattle.model.proofs.Ranges.{in-range}
 use Rattle.model.proofs.Reached.{loaded-ranged}
 use Rattle.stores.proofs.Laws.{queue-empty}
-use Rattle.ports.specs.Held.{numbersFrom, rowOf, blockOf, storeIn, portAt, portsFrom, portsOf}
-use Rattle.states.specs.Shown.{shownState, indexed, stateFits, atLoad, allNumbers, allBytes}
+use Rattle.ports.specs.Held.{allNumbers, allBytes, numbersFrom, rowOf, blockOf, storeIn, portAt, portsFrom, portsOf}
+use Rattle.ranges.specs.Tested.{indexed}
+use Rattle.states.specs.Shown.{shownState, stateFits, atLoad}
 
 -- zeros read anywhere
 zero-at : (m i : ℕ) → getD (zeros m) i 0 ≡ 0

@@ -1,4 +1,2 @@
--- What a state shows of the model's, test 29 of it, and its settled form.
+-- What a state shows of the model's, test 29 of it, the state at load and the state of zeros.
 pub mod Shown
-pub mod Tested
-pub mod Settled

@@ -1,14 +1,6 @@
-// A state as the caller keeps it: plain numbers, handed in and handed back by value. Test 29 of it, the state at load, and a state put
-// together in settled form.
-
-mod settling;
-mod testing;
-
+// A state as the caller keeps it: plain numbers, handed in and handed back by value. The state at load, and the state of zeros.
 ghost use mathlib.Core.Path.{_≡_};
 ghost use Rattle.states.specs.Shown.{atLoad, allZero};
-pub use settling::lay_bytes;
-pub use settling::put_together;
-pub use testing::in_range;
 
 // 01, "State and clock". Test 29 looks at every number of which a range is said here; of port rows only at those of the tables' ports.
 pub struct State {

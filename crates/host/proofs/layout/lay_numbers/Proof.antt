@@ -7,7 +7,7 @@ use lib.Seq.{take-length, length-take-le}
 use borrow.Author.Needs.{needs}
 use Rattle.model.specs.Words.{bytes32}
 use Rattle.stores.specs.Ring.{pasted}
-use Rattle.states.proofs.Parts.{pasted-behind}
+use Rattle.settling.proofs.Parts.{pasted-behind}
 use Rattle.host.specs.Layout.{bytesOfAll}
 use Rattle.host.proofs.Laws.{all-length, all-next, pasted-none}
 use Rattle.host.proofs.layout.lay_numbers.Statement.{statement}

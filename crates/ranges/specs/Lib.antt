@@ -1,0 +1,2 @@
+-- Test 29 of a state.
+pub mod Tested

@@ -1,0 +1,2 @@
+-- A state's settled form.
+pub mod Settled
