@@ -15,7 +15,8 @@ use Rattle.model.proofs.Tests.{by-test}
 use Rattle.states.specs.declared.State.{State}
 use Rattle.states.specs.Shown.{atLoad, allZero}
 use Rattle.kernel.specs.declared.Ran.{Ran}
-use Rattle.kernel.specs.Meets.{isSound, answersAfter, ListMeets}
+use Rattle.states.specs.Shown.{isSound}
+use Rattle.kernel.specs.Meets.{answersAfter, ListMeets}
 use Rattle.host.specs.Layout.{stateOf, bytesOf}
 use Rattle.host.specs.Contracts.{isSized, loadCode, bufferSound, bufferOr, HostLoad, HostList, HandedBack}
 

@@ -14,7 +14,8 @@ use Rattle.model.specs.Run.{listFault}
 use Rattle.states.specs.declared.State.{State}
 use Rattle.states.specs.Shown.{atLoad}
 use Rattle.kernel.specs.declared.Ran.{Ran}
-use Rattle.kernel.specs.Meets.{isSound, stateAfter, answersAfter}
+use Rattle.states.specs.Shown.{isSound}
+use Rattle.kernel.specs.Meets.{stateAfter, answersAfter}
 use Rattle.host.specs.Layout.{stateSize, stateOf, bytesOf}
 
 -- a buffer of the size of a state

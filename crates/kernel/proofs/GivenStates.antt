@@ -31,7 +31,8 @@ use Rattle.settling.specs.Settled.{settledNumbers, settledBytes, Storable}
 use Rattle.states.proofs.Settled.{settled-shows, settled-indexed}
 use Rattle.states.proofs.Load.{load-shown, load-fits}
 use Rattle.kernel.specs.declared.Ran.{Ran}
-use Rattle.kernel.specs.Meets.{isSound, settledAs, stateAfter, answersAfter, ListMeets}
+use Rattle.states.specs.Shown.{isSound, settledAs}
+use Rattle.kernel.specs.Meets.{stateAfter, answersAfter, ListMeets}
 use Rattle.kernel.specs.Given.{Given, byLoad, byStep, byRun}
 
 -- a port in range can be stored

@@ -1,4 +1,4 @@
--- What the public calls' proofs lean on: the refusals of a list, a state that passes test 29, and the reader's tests.
+-- What the public calls' proofs lean on: the refusals of a list, and the reader's tests.
 -- Assumes nothing.
 use Prim.Native.Nat.{ℕ, _+_, _*_, _/_, _%_, _≤_, _<_}
 use mathlib.Core.Path.{_≡_, refl, sym, _∙_}
@@ -9,21 +9,13 @@ use lib.Dec.{eqb, ltb, leb}
 use lib.ListN.{length}
 use borrow.Author.Tests.{eq-eqb, ne-eqb, lt-ltb, le-ltb, ltb-true, leb-true}
 use Rattle.model.specs.Words.{byte, word32}
-use Rattle.model.specs.Tables.{Tables}
-use Rattle.model.specs.Load.{accepts}
-use Rattle.model.specs.State.{inRange}
 use Rattle.model.specs.Answers.{isHanded, stretch}
 use Rattle.model.specs.Run.{eventsOf, listFault}
 use Rattle.model.proofs.Tests.{both-left, both-right}
-use Rattle.model.proofs.Ranges.{ranged}
-use Rattle.services.specs.declared.Layout.{Layout}
-use Rattle.services.specs.Did.{Laid}
-use Rattle.services.proofs.Holding.{held-of}
 use Rattle.states.specs.declared.State.{State}
-use Rattle.ranges.specs.Tested.{indexed}
-use Rattle.states.specs.Shown.{shownState, stateFits}
-use Rattle.steps.specs.Stepped.{Ready}
-use Rattle.kernel.specs.Meets.{isSound, stateAfter, answersAfter, ListMeets, CarriedOut}
+use Rattle.states.specs.Shown.{isSound}
+use Rattle.lists.specs.Carried.{CarriedOut}
+use Rattle.kernel.specs.Meets.{stateAfter, answersAfter, ListMeets}
 
 -- the refusals of a list
 pub fault-28 : (events buffer : List ℕ) (s : Bool) → length buffer < length events → listFault true events buffer s ≡ 28
@@ -48,14 +40,6 @@ unfolding stateAfter answersAfter
 refuses fault n t st events buffer e z =
     record { refusal = sym e; state = rw (e, ne-eqb n 0 z); answered = rw (e, ne-eqb n 0 z) }
 
-pub sound-not : (t : List ℕ) (st : State) → accepts t ≡ false → isSound t st ≡ false
-unfolding isSound
-sound-not t st a = rw a
-
-pub sound-is : (t : List ℕ) (st : State) → accepts t ≡ true → {b : Bool} → b ≡ stateFits t st → isSound t st ≡ b
-unfolding isSound
-sound-is t st a e = (rw a) ∙ sym e
-
 module _ (t : List ℕ) (st : State) (events buffer : List ℕ) where
   pub refuses-28 : length buffer < length events → ListMeets (listFault true events buffer (isSound t st)) t st events buffer (record { refusal = 28; state = st }) buffer
   refuses-28 h = refuses _ 28 t st events buffer (fault-28 events buffer (isSound t st) h) (λ z. omega arith)
@@ -77,14 +61,6 @@ module _ (t : List ℕ) (st : State) (events buffer : List ℕ) where
   runs-all h s e r buffer' c =
       let f = fault-0 events buffer (isSound t st) h s in
       record { refusal = sym f; state = c .state ∙ (rw (f, ne-eqb (length events) 0 e)); answered = c .answered ∙ (rw f) }
-
--- a state that passes test 29 is ready
-pub ready-of :
-    (t : Tables) (lay : Layout) (st : State) → accepts t ≡ true → Laid t lay → stateFits t st ≡ true → length (st .numbers) ≡ 832 → length (st .bytes) ≡ 32768
-    → Ready t lay (record { window = st .window; time = st .time }) (st .modes) (st .numbers) (st .bytes)
-ready-of t lay st a l f n b =
-    let r = ranged t (shownState t st) (both-left (inRange t (shownState t st)) (indexed t (st .numbers)) f) in
-    record { held = held-of a l n b r; ranged = r }
 
 -- the reader's tests, in their order
 module _ (b : List ℕ) (n : ℕ) where

@@ -9,14 +9,12 @@ use lib.Dec.{eqb}
 use lib.ListN.{length, drop}
 use Rattle.model.specs.Words.{if_then_else_}
 use Rattle.model.specs.Load.{loadOf, accepts}
-use Rattle.model.specs.State as model
 use Rattle.model.specs.Events.{eventSize}
 use Rattle.model.specs.Answers.{stretch, handed}
 use Rattle.model.specs.Run.{answers, afterAll, eventsOf, joined, listFault}
 use Rattle.loader.specs.Shown.{verdictOf}
 use Rattle.states.specs.declared.State.{State}
-use Rattle.states.specs.Shown.{shownState, stateFits, atLoad, allZero}
-use Rattle.settling.specs.Settled.{settledNumbers, settledBytes}
+use Rattle.states.specs.Shown.{shownState, isSound, settledAs, atLoad, allZero}
 use Rattle.kernel.specs.declared.Loaded.{Loaded}
 use Rattle.kernel.specs.declared.Ran.{Ran}
 use Rattle.kernel.specs.declared.reader.Stretch.{Stretch}
@@ -26,24 +24,9 @@ pub record LoadMeets (t : List ℕ) (r : Loaded) : Type 0 where
   pub verdict : verdictOf (r .verdict) ≡ loadOf t
   pub state : r .state ≡ (if accepts t then atLoad else allZero)
 
--- tables and state pass test 29
-unfoldable pub isSound : List ℕ → State → Bool
-isSound t st = accepts t && stateFits t st
-
 -- the state test
 abbrev pub TestMeets : List ℕ → State → Bool → Type 0
 TestMeets t st r = r ≡ isSound t st
-
--- the state that shows a model's state, in settled form; rows beyond the tables' ports are as they were handed in
-unfoldable pub settledAs : State → model.State → State
-settledAs st s =
-    record {
-      window = s .clock .window;
-      time = s .clock .time;
-      modes = s .modes;
-      numbers = settledNumbers (s .ports) (st .numbers);
-      bytes = settledBytes (s .ports) (st .bytes);
-    }
 
 -- a call on a list that is refused, or whose list is empty, hands the state back as it came
 unfoldable pub stateAfter : ℕ → List ℕ → State → List ℕ → State
@@ -76,8 +59,3 @@ pub record StretchMeets (b : List ℕ) (record' : ℕ) (r : Stretch) : Type 0 wh
 
 abbrev pub ReadMeets : List ℕ → ℕ → List ℕ → Type 0
 ReadMeets b record' r = r ≡ handed b record'
-
--- a list of whole records carried out from a state in range
-pub record CarriedOut (t : List ℕ) (st : State) (events buffer : List ℕ) (r : State) (buffer' : List ℕ) : Type 0 where
-  pub state : r ≡ settledAs st (afterAll t (shownState t st) (eventsOf events))
-  pub answered : buffer' ≡ joined (answers t (shownState t st) (eventsOf events)) ++ drop (length events) buffer

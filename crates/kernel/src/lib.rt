@@ -1,8 +1,13 @@
 // The public calls: load, the state test, step, run, and the reader of answers. None asks anything of its caller; each does its own checking, and
 // its contract is one predicate of specs/Meets.antt for every input. Everything below this crate is internal.
-ghost use Rattle.kernel.specs.Meets.{LoadMeets, TestMeets, RunMeets, StepMeets};
+ghost use mathlib.Core.Path.{_≡_};
+ghost use mathlib.Core.Bool.{true};
+ghost use Prim.Native.Nat.{_%_};
+ghost use lib.ListN.{length};
+ghost use Rattle.model.specs.Run.{listFault};
+ghost use Rattle.states.specs.Shown.{isSound};
+ghost use Rattle.kernel.specs.Meets.{LoadMeets, TestMeets, ListMeets, RunMeets, StepMeets};
 
-mod lists;
 mod reader;
 
 use loader::Verdict;
@@ -46,6 +51,30 @@ pub fn in_range(t: &[u8], state: State) -> bool
     lists::sound(t, state)
 }
 
+// A list of whole records: 28, 29, then the list. An empty list is run and does nothing.
+fn carry_out(t: &[u8], state: State, events: &[u8], answers: &mut [u8]) -> Ran
+    requires { ⌜ length (now events) % 80 ≡ 0 ⌝ }
+    ensures { λ r. ⌜ ListMeets (listFault true (now (events .entry)) (now (answers .entry)) (isSound (now (t .entry)) state)) (now (t .entry)) state (now (events .entry)) (now (answers .entry)) r (now (answers .exit)) ⌝ }
+{
+    if answers.len() < events.len() {
+        return Ran { refusal: 28, state };
+    }
+    if !lists::is_accepted(t) {
+        return Ran { refusal: 29, state };
+    }
+    let lay = lists::layout(t);
+    if !lists::state_fits(t, lay, state) {
+        return Ran { refusal: 29, state };
+    }
+    if events.len() == 0 {
+        return Ran { refusal: 0, state };
+    }
+    Ran {
+        refusal: 0,
+        state: lists::run_list(t, lay, state, events, answers),
+    }
+}
+
 // A list of events, each 80 bytes, answered in order.
 pub fn run(t: &[u8], state: State, events: &[u8], answers: &mut [u8]) -> Ran
     ensures { λ r. ⌜ RunMeets (now (t .entry)) state (now (events .entry)) (now (answers .entry)) r (now (answers .exit)) ⌝ }
@@ -53,7 +82,7 @@ pub fn run(t: &[u8], state: State, events: &[u8], answers: &mut [u8]) -> Ran
     if events.len() % 80 != 0 {
         return Ran { refusal: 27, state };
     }
-    lists::carry_out(t, state, events, answers)
+    carry_out(t, state, events, answers)
 }
 
 // One event of exactly 80 bytes.
@@ -63,5 +92,5 @@ pub fn step(t: &[u8], state: State, event: &[u8], answers: &mut [u8]) -> Ran
     if event.len() != 80 {
         return Ran { refusal: 27, state };
     }
-    lists::carry_out(t, state, event, answers)
+    carry_out(t, state, event, answers)
 }

@@ -2,7 +2,7 @@
 use mathlib.Core.Path.{sym, _∙_, ap}
 use lib.ListN.{length}
 use borrow.Author.Tests.{eq-eqb, ne-eqb}
-use Rattle.kernel.specs.Meets.{isSound}
+use Rattle.states.specs.Shown.{isSound}
 use Rattle.host.proofs.Calls.{unsound, sound-as}
 use borrow.Author.Needs.{needs}
 use Rattle.host.proofs.mueanphrai_in_range.Statement.{statement}

@@ -6,7 +6,8 @@ use lib.ListN.{length}
 use borrow.Author.Tests.{eq-eqb, ne-eqb}
 use Rattle.model.specs.Run.{listFault}
 use Rattle.states.specs.declared.State.{State}
-use Rattle.kernel.specs.Meets.{isSound, ListMeets}
+use Rattle.states.specs.Shown.{isSound}
+use Rattle.kernel.specs.Meets.{ListMeets}
 use Rattle.host.proofs.Calls.{unsized, sized}
 use borrow.Author.Needs.{needs}
 use Rattle.host.proofs.mueanphrai_run.Statement.{statement}

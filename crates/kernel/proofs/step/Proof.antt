@@ -6,7 +6,8 @@ use lib.ListN.{length}
 use borrow.Author.Needs.{needs}
 use borrow.Author.Tests.{eq-eqb, ne-eqb}
 use Rattle.model.specs.Run.{listFault}
-use Rattle.kernel.specs.Meets.{isSound, ListMeets}
+use Rattle.states.specs.Shown.{isSound}
+use Rattle.kernel.specs.Meets.{ListMeets}
 use Rattle.kernel.proofs.Laws
 use borrow.Author.Needs.{needs}
 use Rattle.kernel.proofs.step.Statement.{statement}

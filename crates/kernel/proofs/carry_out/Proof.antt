@@ -1,11 +1,11 @@
--- `kernel::lists::carry_out` meets its contract: the refusals in their order, then the list. Assumes nothing.
+-- `kernel::carry_out` meets its contract: the refusals in their order, then the list. Assumes nothing.
 use mathlib.Core.Path.{sym, _∙_}
-use borrow.Author.Needs.{needs}
 use borrow.Author.Tests.{not-true, not-false}
+use Rattle.lists.proofs.Laws as Sound
 use Rattle.kernel.proofs.Laws
 use borrow.Author.Needs.{needs}
-use Rattle.kernel.proofs.lists.carry_out.Statement.{statement}
-use Rattle.kernel.proofs.lists.carry_out.Tie as tie
+use Rattle.kernel.proofs.carry_out.Statement.{statement}
+use Rattle.kernel.proofs.carry_out.Tie as tie
 
 returns : tie.Need-returns
 returns c =
@@ -26,7 +26,7 @@ returns-2 c =
     let st = s .args .state in
     let es = s .args .events .now in
     let b = s .args .answers .now in
-    Laws.refuses-29 t st es b (c .before .before .if1 .left) (Laws.sound-not t st (sym (c .before .is-accepted .ensures) ∙ not-true _ (c .if2 .taken)))
+    Laws.refuses-29 t st es b (c .before .before .if1 .left) (Sound.sound-not t st (sym (c .before .is-accepted .ensures) ∙ not-true _ (c .if2 .taken)))
 
 layout-requires : tie.Need-layout-requires
 layout-requires c κs = search needs
@@ -41,7 +41,7 @@ returns-3 c =
     let st = s .args .state in
     let es = s .args .events .now in
     let b = s .args .answers .now in
-    Laws.refuses-29 t st es b (c .before .before .before .before .before .if1 .left) (Laws.sound-is t st (sym (c .before .before .before .before .is-accepted .ensures) ∙ not-false _ (c .before .before .before .if2 .left)) (c .before .state-fits .ensures) ∙ not-true _ (c .if3 .taken))
+    Laws.refuses-29 t st es b (c .before .before .before .before .before .if1 .left) (Sound.sound-is t st (sym (c .before .before .before .before .is-accepted .ensures) ∙ not-false _ (c .before .before .before .if2 .left)) (c .before .state-fits .ensures) ∙ not-true _ (c .if3 .taken))
 
 returns-4 : tie.Need-returns-4
 returns-4 c =
@@ -50,7 +50,7 @@ returns-4 c =
     let st = s .args .state in
     let es = s .args .events .now in
     let b = s .args .answers .now in
-    Laws.runs-none t st es b (c .before .before .before .before .before .before .if1 .left) (Laws.sound-is t st (sym (c .before .before .before .before .before .is-accepted .ensures) ∙ not-false _ (c .before .before .before .before .if2 .left)) (c .before .before .state-fits .ensures) ∙ not-false _ (c .before .if3 .left)) (c .if4 .taken)
+    Laws.runs-none t st es b (c .before .before .before .before .before .before .if1 .left) (Sound.sound-is t st (sym (c .before .before .before .before .before .is-accepted .ensures) ∙ not-false _ (c .before .before .before .before .if2 .left)) (c .before .before .state-fits .ensures) ∙ not-false _ (c .before .if3 .left)) (c .if4 .taken)
 
 run-list-requires : tie.Need-run-list-requires
 run-list-requires c κs =
@@ -67,7 +67,7 @@ returns-5 c =
     let st = s .args .state in
     let es = s .args .events .now in
     let b = s .args .answers .now in
-    Laws.runs-all t st es b (c .before .before .before .before .before .before .before .before .before .before .if1 .left) (Laws.sound-is t st (sym (c .before .before .before .before .before .before .before .before .before .is-accepted .ensures) ∙ not-false _ (c .before .before .before .before .before .before .before .before .if2 .left)) (c .before .before .before .before .before .before .state-fits .ensures) ∙ not-false _ (c .before .before .before .before .before .if3 .left)) (c .before .before .before .before .if4 .left) (c .before .before .run-list .result) (c .before .before .run-list .last .1 .1 .1 .1 .0) (c .before .before .run-list .ensures)
+    Laws.runs-all t st es b (c .before .before .before .before .before .before .before .before .before .before .if1 .left) (Sound.sound-is t st (sym (c .before .before .before .before .before .before .before .before .before .is-accepted .ensures) ∙ not-false _ (c .before .before .before .before .before .before .before .before .if2 .left)) (c .before .before .before .before .before .before .state-fits .ensures) ∙ not-false _ (c .before .before .before .before .before .if3 .left)) (c .before .before .before .before .if4 .left) (c .before .before .run-list .result) (c .before .before .run-list .last .1 .1 .1 .1 .0) (c .before .before .run-list .ensures)
 
 pub carry-out-spec : {M : Type 1} → statement M
 carry-out-spec =

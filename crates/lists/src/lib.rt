@@ -1,21 +1,19 @@
-// Calls on lists, once the event bytes are whole records: the other refusals, and the list carried out over local arrays.
+// A list of whole records under tables and a state that are tested here: test 29, and the list carried out over local arrays.
 ghost use mathlib.Core.Path.{_≡_};
 ghost use mathlib.Core.Bool.{true};
 ghost use Prim.Native.Nat.{_≤_, _%_};
 ghost use lib.ListN.{length};
 ghost use Rattle.model.specs.Load.{accepts};
-ghost use Rattle.model.specs.Run.{listFault};
 ghost use Rattle.services.specs.Did.{Laid};
-ghost use Rattle.states.specs.Shown.{stateFits};
-ghost use Rattle.kernel.specs.Meets.{isSound, ListMeets, CarriedOut};
-use super::Ran;
+ghost use Rattle.states.specs.Shown.{stateFits, isSound};
+ghost use Rattle.lists.specs.Carried.{CarriedOut};
 use events::Clock;
 use loader::Verdict;
 use services::Layout;
 use states::State;
 
 // How many windows, ports and channels there are.
-fn layout(t: &[u8]) -> Layout
+pub fn layout(t: &[u8]) -> Layout
     ensures { λ r. ⌜ Laid (now (t .entry)) r ⌝ }
 {
     Layout {
@@ -25,7 +23,7 @@ fn layout(t: &[u8]) -> Layout
     }
 }
 
-fn is_accepted(t: &[u8]) -> bool
+pub fn is_accepted(t: &[u8]) -> bool
     ensures { λ r. ⌜ r ≡ accepts (now (t .entry)) ⌝ }
 {
     let verdict = loader::judge(t);
@@ -36,7 +34,7 @@ fn is_accepted(t: &[u8]) -> bool
 }
 
 // The state's numbers are in their ranges, for accepted tables.
-fn state_fits(t: &[u8], lay: Layout, state: State) -> bool
+pub fn state_fits(t: &[u8], lay: Layout, state: State) -> bool
     requires { ⌜ (accepts (now t) ≡ true) × Laid (now t) lay ⌝ }
     ensures { λ r. ⌜ r ≡ stateFits (now (t .entry)) state ⌝ }
 {
@@ -55,7 +53,7 @@ pub fn sound(t: &[u8], state: State) -> bool
 }
 
 // The events, over local arrays, and the state put together in settled form.
-fn run_list(t: &[u8], lay: Layout, state: State, events: &[u8], answers: &mut [u8]) -> State
+pub fn run_list(t: &[u8], lay: Layout, state: State, events: &[u8], answers: &mut [u8]) -> State
     requires { ⌜ (accepts (now t) ≡ true) × Laid (now t) lay × (stateFits (now t) state ≡ true) ⌝ }
     requires { ⌜ (length (now events) % 80 ≡ 0) × (length (now events) ≤ length (now answers)) ⌝ }
     ensures { λ r. ⌜ CarriedOut (now (t .entry)) state (now (events .entry)) (now (answers .entry)) r (now (answers .exit)) ⌝ }
@@ -92,29 +90,5 @@ fn run_list(t: &[u8], lay: Layout, state: State, events: &[u8], answers: &mut [u
         modes,
         numbers: settled_numbers,
         bytes: settled_bytes,
-    }
-}
-
-// 28, 29, then the list. An empty list is run and does nothing.
-pub fn carry_out(t: &[u8], state: State, events: &[u8], answers: &mut [u8]) -> Ran
-    requires { ⌜ length (now events) % 80 ≡ 0 ⌝ }
-    ensures { λ r. ⌜ ListMeets (listFault true (now (events .entry)) (now (answers .entry)) (isSound (now (t .entry)) state)) (now (t .entry)) state (now (events .entry)) (now (answers .entry)) r (now (answers .exit)) ⌝ }
-{
-    if answers.len() < events.len() {
-        return Ran { refusal: 28, state };
-    }
-    if !is_accepted(t) {
-        return Ran { refusal: 29, state };
-    }
-    let lay = layout(t);
-    if !state_fits(t, lay, state) {
-        return Ran { refusal: 29, state };
-    }
-    if events.len() == 0 {
-        return Ran { refusal: 0, state };
-    }
-    Ran {
-        refusal: 0,
-        state: run_list(t, lay, state, events, answers),
     }
 }

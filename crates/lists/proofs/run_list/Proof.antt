@@ -1,19 +1,13 @@
--- `kernel::lists::run_list` meets its contract: the run over local arrays, and the state put together. Assumes nothing.
-use Prim.Native.Nat.{_*_, _/_}
-use mathlib.Core.Path.{_≡_, _∙_, ap}
-use mathlib.Core.List.{_++_}
+-- `lists::run_list` meets its contract: the run over local arrays, and the state put together. Assumes nothing.
+use mathlib.Core.Path.{_≡_}
 use native.Mathlib.Omega.{arith}
-use lib.ListN.{length, drop}
-use borrow.Author.Needs.{needs}
-use Rattle.model.specs.Run.{answers, eventsOf, joined}
+use lib.ListN.{length}
 use Rattle.model.proofs.Accepted.{accepted}
-use Rattle.states.specs.Shown.{shownState}
 use Rattle.services.proofs.Holding.{sized-at}
-use Rattle.kernel.specs.Meets.{settledAs}
-use Rattle.kernel.proofs.Laws
+use Rattle.lists.proofs.Laws
 use borrow.Author.Needs.{needs}
-use Rattle.kernel.proofs.lists.run_list.Statement.{statement}
-use Rattle.kernel.proofs.lists.run_list.Tie as tie
+use Rattle.lists.proofs.run_list.Statement.{statement}
+use Rattle.lists.proofs.run_list.Tie as tie
 
 whole-bytes : (c : tie.Start) → length (c .args .state .bytes) ≡ 32768
 whole-bytes c = search needs
@@ -78,21 +72,9 @@ same-length : tie.Need-same-length
 same-length c = search needs
 
 returns : tie.Need-returns
-unfolding settledAs eventsOf
 returns c =
     let s = c .before .before .before .before .before .before .before .before .before .before .before .before .before .before .before .before .before .before .before .before .before .before .before .before .before .before .before in
-    let t = s .args .t .now in
-    let st = s .args .state in
-    let es = s .args .events .now in
-    let b = s .args .answers .now in
-    let run = c .before .before .before .before .before .before .before .before .before .before .before .before .before .before .before .run-events .ensures in
-    let put = c .before .before .before .put-together .ensures in
-    let n = s .pre .0 .1 .ported in
-    let all : 80 * (length es / 80) ≡ length es = omega (arith, s .pre .1 .0) in
-    record {
-      state = (rw (put .numbersPut, put .bytesPut, n)) ∙ ap (settledAs st) (run .left);
-      answered = run .answered ∙ ap (λ k. joined (answers t (shownState t st) (eventsOf es)) ++ drop k b) all;
-    }
+    Laws.carried-out (s .args .t .now) (s .args .lay) (s .args .state) (s .args .events .now) (s .args .answers .now) (s .pre .1 .0) (s .pre .0 .1 .ported) (c .before .before .before .before .before .before .before .before .before .before .before .before .before .before .before .run-events .ensures) (c .before .before .before .put-together .ensures)
 
 pub run-list-spec : {M : Type 1} → statement M
 run-list-spec =

@@ -1,10 +1,9 @@
--- `kernel::lists::state_fits` meets its contract: test 29 at the state's own time and bytes. Assumes nothing.
+-- `lists::state_fits` meets its contract: test 29 at the state's own time and bytes. Assumes nothing.
 use mathlib.Core.Path.{_≡_}
 use lib.ListN.{length}
 use borrow.Author.Needs.{needs}
-use borrow.Author.Needs.{needs}
-use Rattle.kernel.proofs.lists.state_fits.Statement.{statement}
-use Rattle.kernel.proofs.lists.state_fits.Tie as tie
+use Rattle.lists.proofs.state_fits.Statement.{statement}
+use Rattle.lists.proofs.state_fits.Tie as tie
 
 whole-bytes : (c : tie.Start) → length (c .args .state .bytes) ≡ 32768
 whole-bytes c = search needs

@@ -1,11 +1,10 @@
--- `kernel::lists::sound` meets its contract: tables first, then the state. Assumes nothing.
+-- `lists::sound` meets its contract: tables first, then the state. Assumes nothing.
 use mathlib.Core.Path.{sym, _∙_}
-use borrow.Author.Needs.{needs}
 use borrow.Author.Tests.{not-true, not-false}
-use Rattle.kernel.proofs.Laws
+use Rattle.lists.proofs.Laws
 use borrow.Author.Needs.{needs}
-use Rattle.kernel.proofs.lists.sound.Statement.{statement}
-use Rattle.kernel.proofs.lists.sound.Tie as tie
+use Rattle.lists.proofs.sound.Statement.{statement}
+use Rattle.lists.proofs.sound.Tie as tie
 
 is-accepted-requires : tie.Need-is-accepted-requires
 is-accepted-requires c κs = search needs

@@ -1,11 +1,10 @@
--- `kernel::lists::is_accepted` meets its contract: by the case of the verdict. Assumes nothing.
+-- `lists::is_accepted` meets its contract: by the case of the verdict. Assumes nothing.
 use mathlib.Core.Path.{sym, _∙_, ap}
-use borrow.Author.Needs.{needs}
 use Rattle.model.specs.Load.{isAccepted, accepts}
 use Rattle.loader.specs.Shown.{verdictOf}
 use borrow.Author.Needs.{needs}
-use Rattle.kernel.proofs.lists.is_accepted.Statement.{statement}
-use Rattle.kernel.proofs.lists.is_accepted.Tie as tie
+use Rattle.lists.proofs.is_accepted.Statement.{statement}
+use Rattle.lists.proofs.is_accepted.Tie as tie
 
 judge-requires : tie.Need-judge-requires
 judge-requires c κs = search needs

@@ -1,0 +1,2 @@
+-- A list carried out.
+pub mod Carried
