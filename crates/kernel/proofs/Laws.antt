@@ -16,9 +16,9 @@ use Rattle.model.specs.Answers.{isHanded, stretch}
 use Rattle.model.specs.Run.{eventsOf, listFault}
 use Rattle.model.proofs.Tests.{both-left, both-right}
 use Rattle.model.proofs.Ranges.{ranged}
-use Rattle.services.specs.declared.Layout.{Layout}
-use Rattle.services.specs.Did.{Laid}
-use Rattle.services.proofs.Holding.{held-of}
+use Rattle.lent.specs.declared.Layout.{Layout}
+use Rattle.lent.specs.Did.{Laid}
+use Rattle.lent.proofs.Holding.{held-of}
 use Rattle.states.specs.declared.State.{State}
 use Rattle.states.specs.Shown.{shownState, stateFits, indexed}
 use Rattle.steps.specs.Stepped.{Ready}

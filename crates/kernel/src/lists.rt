@@ -5,13 +5,13 @@ ghost use Prim.Native.Nat.{_≤_, _%_};
 ghost use lib.ListN.{length};
 ghost use Rattle.model.specs.Load.{accepts};
 ghost use Rattle.model.specs.Run.{listFault};
-ghost use Rattle.services.specs.Did.{Laid};
+ghost use Rattle.lent.specs.Did.{Laid};
 ghost use Rattle.states.specs.Shown.{stateFits};
 ghost use Rattle.kernel.specs.Meets.{isSound, ListMeets, CarriedOut};
 use super::Ran;
 use events::Clock;
+use lent::Layout;
 use loader::Verdict;
-use services::Layout;
 use states::State;
 
 // How many windows, ports and channels there are.

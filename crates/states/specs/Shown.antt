@@ -11,7 +11,7 @@ use Rattle.model.specs.State.{partitions, coldStart, inRange}
 use Rattle.model.specs.State as model
 use Rattle.stores.specs.Ring.{slots}
 use Rattle.ports.specs.Held.{rowOf}
-use Rattle.services.specs.Did.{shown}
+use Rattle.lent.specs.Did.{shown}
 use Rattle.states.specs.declared.State.{State}
 
 -- the model's state: of the port rows those of the tables' ports

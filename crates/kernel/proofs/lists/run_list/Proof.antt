@@ -8,7 +8,7 @@ use borrow.Author.Needs.{needs}
 use Rattle.model.specs.Run.{answers, eventsOf, joined}
 use Rattle.model.proofs.Accepted.{accepted}
 use Rattle.states.specs.Shown.{shownState}
-use Rattle.services.proofs.Holding.{sized-at}
+use Rattle.lent.proofs.Holding.{sized-at}
 use Rattle.kernel.specs.Meets.{settledAs}
 use Rattle.kernel.proofs.Laws
 use borrow.Author.Needs.{needs}
