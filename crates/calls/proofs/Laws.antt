@@ -26,10 +26,11 @@ use Rattle.ports.specs.Held.{rowOf, blockOf, storeIn, portAt, RowPut, PortPut}
 use Rattle.ports.proofs.Ports.{port-put, put-is, block-kept}
 use Rattle.ports.proofs.Rows.{row-again, row-is}
 use Rattle.stores.proofs.Laws.{queue-empty}
-use Rattle.services.specs.declared.Layout.{Layout}
-use Rattle.services.specs.Did.{Held, shown, Does}
-use Rattle.services.specs.Served.{Serves}
-use Rattle.services.proofs.Holding.{created-is, shown-port, shown-put}
+use Rattle.lent.specs.declared.Layout.{Layout}
+use Rattle.lent.specs.Did.{Held, shown, Does}
+use Rattle.lent.specs.Served.{Serves}
+use Rattle.lent.proofs.Contents.{created-is}
+use Rattle.lent.proofs.Holding.{shown-port, shown-put}
 use Rattle.calls.specs.Called.{Rows, ownAt, periodOf}
 
 -- accepted tables: where the rows lie, and that there are few

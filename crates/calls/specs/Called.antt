@@ -13,8 +13,8 @@ use Rattle.model.specs.Events.{Call, known, need}
 use Rattle.model.specs.Services.{Reply}
 use Rattle.events.specs.declared.answers.Answer.{Answer}
 use Rattle.ports.specs.Held.{rowOf}
-use Rattle.services.specs.declared.Layout.{Layout}
-use Rattle.services.specs.Did.{Laid, shown, Does}
+use Rattle.lent.specs.declared.Layout.{Layout}
+use Rattle.lent.specs.Did.{Laid, shown, Does}
 
 -- the test of an own port, with the created mark where it stands
 unfoldable pub ownAt : Tables → List ℕ → ℕ → Call → Bool

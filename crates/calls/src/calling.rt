@@ -3,7 +3,7 @@ ghost use Prim.Native.Nat.{_<_};
 ghost use lib.ListN.{length};
 ghost use Rattle.model.specs.Services.{service};
 ghost use Rattle.events.specs.Shown.{callOf};
-ghost use Rattle.services.specs.Did.{Held};
+ghost use Rattle.lent.specs.Did.{Held};
 ghost use Rattle.calls.specs.Called.{Asked, Calls};
 use super::creating::create;
 use super::creating::get_id;
@@ -11,7 +11,7 @@ use super::modes::set_mode;
 use super::owning::use_own;
 use events::Answer;
 use events::Fields;
-use services::Layout;
+use lent::Layout;
 
 pub fn service(
     t: &[u8],

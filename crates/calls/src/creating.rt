@@ -7,13 +7,13 @@ ghost use Rattle.model.specs.Services.{likeRow, made, create, getId};
 ghost use Rattle.tables.specs.Shown.{rowOf};
 ghost use Rattle.events.specs.Shown.{callOf};
 ghost use Rattle.ports.specs.Held.{portAt};
-ghost use Rattle.services.specs.Did.{Held};
-ghost use Rattle.services.specs.Served.{Lent, Serves};
+ghost use Rattle.lent.specs.Did.{Held};
+ghost use Rattle.lent.specs.Served.{Lent, Serves};
 ghost use Rattle.calls.specs.Called.{Asked, Calls, periodOf};
 use super::names::look_up;
 use events::Answer;
 use events::Fields;
-use services::Layout;
+use lent::Layout;
 use tables::PortRow;
 use tables::Transfer;
 

@@ -9,7 +9,7 @@ ghost use Rattle.model.specs.Services.{unmade, setMode};
 ghost use Rattle.ports.specs.Held.{portsOf, PortPut};
 ghost use Rattle.calls.specs.Called.{Rows, Calls};
 use events::Answer;
-use services::Layout;
+use lent::Layout;
 
 // A port as at load: not created, empty, with validity and arrival 0.
 pub fn unmake(numbers: &mut [u32], k: usize)

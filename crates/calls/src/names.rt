@@ -5,7 +5,7 @@ ghost use lib.ListN.{length};
 ghost use Rattle.model.specs.Tables.{ports};
 ghost use Rattle.model.specs.Services.{isNamed, lookUp};
 ghost use Rattle.calls.specs.Called.{Rows};
-use services::Layout;
+use lent::Layout;
 
 // Port k has that owner, mode and name.
 fn is_named(t: &[u8], lay: Layout, p: u8, mode: u8, event: &[u8], k: usize) -> bool

@@ -6,13 +6,13 @@ ghost use lib.ListN.{length};
 ghost use Rattle.model.specs.Events.{known};
 ghost use Rattle.model.specs.Services.{useOwn};
 ghost use Rattle.events.specs.Shown.{callOf};
-ghost use Rattle.services.specs.Did.{Held};
+ghost use Rattle.lent.specs.Did.{Held};
 ghost use Rattle.calls.specs.Called.{Rows, Asked, ownAt, Calls};
 ghost use mathlib.Core.List.{List};
 ghost use Prim.Native.Nat.{ℕ};
 use events::Answer;
 use events::Fields;
-use services::Layout;
+use lent::Layout;
 
 // The call's id is that of an own port.
 pub fn own(t: &[u8], lay: Layout, numbers: &[u32], p: u8, f: Fields) -> bool

@@ -23,7 +23,7 @@ use Rattle.model.proofs.Lists.{events-sized}
 use Rattle.model.proofs.Ranges.{Ranged, ranged, in-range}
 use Rattle.model.proofs.Reached.{all-ranged}
 use Rattle.ports.specs.Held.{portsOf}
-use Rattle.services.proofs.Laws.{fits-at}
+use Rattle.lent.proofs.Contents.{fits-at}
 use Rattle.states.specs.declared.State.{State}
 use Rattle.ranges.specs.Tested.{indexed}
 use Rattle.states.specs.Shown.{shownState, stateFits, atLoad, allZero}

@@ -14,9 +14,9 @@ use Rattle.model.specs.Run.{answers, eventsOf, joined}
 use Rattle.model.proofs.Tests.{both-left}
 use Rattle.model.proofs.Ranges.{ranged}
 use Rattle.events.specs.declared.clock.Clock.{Clock}
-use Rattle.services.specs.declared.Layout.{Layout}
-use Rattle.services.specs.Did.{Laid}
-use Rattle.services.proofs.Holding.{held-of}
+use Rattle.lent.specs.declared.Layout.{Layout}
+use Rattle.lent.specs.Did.{Laid}
+use Rattle.lent.proofs.Holding.{held-of}
 use Rattle.steps.specs.Stepped.{Ready, Runs}
 use Rattle.ranges.specs.Tested.{indexed}
 use Rattle.settling.specs.Settled.{PutTogether}

@@ -4,12 +4,12 @@ ghost use mathlib.Core.Bool.{true};
 ghost use Prim.Native.Nat.{_≤_, _%_};
 ghost use lib.ListN.{length};
 ghost use Rattle.model.specs.Load.{accepts};
-ghost use Rattle.services.specs.Did.{Laid};
+ghost use Rattle.lent.specs.Did.{Laid};
 ghost use Rattle.states.specs.Shown.{stateFits, isSound};
 ghost use Rattle.lists.specs.Carried.{CarriedOut};
 use events::Clock;
+use lent::Layout;
 use loader::Verdict;
-use services::Layout;
 use states::State;
 
 // How many windows, ports and channels there are.

@@ -28,12 +28,12 @@ use Rattle.stores.proofs.Lists.{length-filled}
 use Rattle.stores.proofs.Laws.{written-letter}
 use Rattle.ports.specs.Held
 use Rattle.ports.specs.Held.{storeAt, portAt, PortPut}
-use Rattle.services.specs.declared.Layout.{Layout}
-use Rattle.services.specs.Served.{Lent, Fits, TakesOldest}
-use Rattle.services.specs.Did
-use Rattle.services.specs.Did.{shown, Does}
-use Rattle.services.proofs.Laws.{none-held, some-held, oldest-held}
-use Rattle.services.proofs.Holding.{shown-port, shown-put, row-read, fits-of, sized-at}
+use Rattle.lent.specs.declared.Layout.{Layout}
+use Rattle.lent.specs.Served.{Lent, Fits, TakesOldest}
+use Rattle.lent.specs.Did
+use Rattle.lent.specs.Did.{shown, Does}
+use Rattle.lent.proofs.Contents.{none-held, some-held, oldest-held}
+use Rattle.lent.proofs.Holding.{shown-port, shown-put, row-read, fits-of, sized-at}
 use Rattle.moves.specs.Moved.{Arrived, Carried, Delivered, Moved}
 use Rattle.moves.proofs.Laws.{left-ranged, held-put}
 

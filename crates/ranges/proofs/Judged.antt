@@ -21,7 +21,7 @@ use Rattle.stores.specs.Ring.{slots, slotOf, messagesFrom, queueOf}
 use Rattle.stores.proofs.Laws.{message-length}
 use Rattle.ports.specs.Held.{rowOf, blockOf, storeIn, storeAt, portAt, portsFrom, portsOf}
 use Rattle.ports.proofs.Ports.{count-is, store-bytes, store-lengths, ports-length}
-use Rattle.services.specs.Did.{shown}
+use Rattle.lent.specs.Did.{shown}
 use Rattle.ranges.specs.Tested.{modesFit, lengthFits, lengthsFit, numbersFit, portFits, indexed, eachFits}
 
 -- ---- bounded searches

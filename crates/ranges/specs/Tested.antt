@@ -11,7 +11,7 @@ use Rattle.model.specs.Tables.{Tables, Row, row, room, ports}
 use Rattle.model.specs.State.{normal, shortest, inRange}
 use Rattle.stores.specs.Ring.{slots}
 use Rattle.ports.specs.Held.{rowOf, allBytes}
-use Rattle.services.specs.Did.{shown}
+use Rattle.lent.specs.Did.{shown}
 
 abbrev pub modesFit : List ℕ → Bool
 modesFit modes = allIn (λ m. leb m normal) modes

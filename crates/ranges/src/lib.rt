@@ -8,10 +8,10 @@ ghost use Rattle.model.specs.Tables.{room};
 ghost use Rattle.model.specs.Load.{accepts};
 ghost use Rattle.model.proofs.Rows.{RowRanges};
 ghost use Rattle.tables.specs.Shown.{rowOf};
-ghost use Rattle.services.specs.Did.{Laid};
+ghost use Rattle.lent.specs.Did.{Laid};
 ghost use Rattle.ranges.specs.Tested.{modesFit, lengthsFit, numbersFit, eachFits, Judges};
 ghost use Rattle.ports.specs.Held as Held;
-use services::Layout;
+use lent::Layout;
 use tables::PortRow;
 use tables::Transfer;
 

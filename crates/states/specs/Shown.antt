@@ -10,7 +10,7 @@ use Rattle.model.specs.Load.{accepts}
 use Rattle.model.specs.State.{partitions, coldStart, inRange}
 use Rattle.model.specs.State as model
 use Rattle.ports.specs.Held.{allNumbers, allBytes}
-use Rattle.services.specs.Did.{shown}
+use Rattle.lent.specs.Did.{shown}
 use Rattle.ranges.specs.Tested.{indexed}
 use Rattle.settling.specs.Settled.{settledNumbers, settledBytes}
 use Rattle.states.specs.declared.State.{State}

@@ -20,7 +20,7 @@ use Rattle.model.proofs.Accepted.{Accepted}
 use Rattle.events.specs.declared.answers.Answer.{Answer}
 use Rattle.events.specs.declared.clock.Clock.{Clock}
 use Rattle.events.specs.Shown.{replied, toldAs}
-use Rattle.services.specs.Did.{shown, Does}
+use Rattle.lent.specs.Did.{shown, Does}
 use Rattle.steps.specs.Stepped.{clockOf, Answers}
 
 -- an event's doer and reply

@@ -18,9 +18,9 @@ use Rattle.model.proofs.Lists.{after-append, answers-append, joined-append, ans
 use Rattle.model.proofs.Ranges.{Ranged}
 use Rattle.model.proofs.Reached.{after-ranged}
 use Rattle.events.specs.declared.clock.Clock.{Clock}
-use Rattle.services.specs.declared.Layout.{Layout}
-use Rattle.services.specs.Did.{Held, shown}
-use Rattle.services.proofs.Holding.{held-of}
+use Rattle.lent.specs.declared.Layout.{Layout}
+use Rattle.lent.specs.Did.{Held, shown}
+use Rattle.lent.proofs.Holding.{held-of}
 use Rattle.steps.specs.Stepped.{clockOf, Ready, LeavesAt, RunsTo}
 
 -- one record more

@@ -14,8 +14,8 @@ use Rattle.model.proofs.Ranges.{Ranged}
 use Rattle.events.specs.Shown.{replied}
 use Rattle.events.specs.declared.answers.Answer.{Answer}
 use Rattle.events.specs.declared.clock.Clock.{Clock}
-use Rattle.services.specs.declared.Layout.{Layout}
-use Rattle.services.specs.Did.{Held, shown}
+use Rattle.lent.specs.declared.Layout.{Layout}
+use Rattle.lent.specs.Did.{Held, shown}
 
 -- the clock that the code's record shows
 abbrev pub clockOf : Clock → model.Clock

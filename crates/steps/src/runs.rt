@@ -5,7 +5,7 @@ ghost use Rattle.model.specs.Step.{answer};
 ghost use Rattle.steps.specs.Stepped.{Ready, LeavesAt, Runs};
 use super::turns::turn;
 use events::Clock;
-use services::Layout;
+use lent::Layout;
 
 // The event in record i, answered in record i.
 fn turn_at(

@@ -8,13 +8,13 @@ ghost use Rattle.model.specs.Load.{accepts};
 ghost use Rattle.model.specs.State.{tick};
 ghost use Rattle.model.specs.Events.{decode, call, move};
 ghost use Rattle.events.specs.Shown.{callOf};
-ghost use Rattle.services.specs.Did.{Laid};
+ghost use Rattle.lent.specs.Did.{Laid};
 ghost use Rattle.steps.specs.Stepped.{clockOf, Ready, Answers};
 use events::Answer;
 use events::Asked;
 use events::Clock;
 use events::Fields;
-use services::Layout;
+use lent::Layout;
 
 // The doer of an event that is nobody's.
 const NOBODY: u8 = 255;

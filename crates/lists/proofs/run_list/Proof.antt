@@ -3,7 +3,7 @@ use mathlib.Core.Path.{_≡_}
 use native.Mathlib.Omega.{arith}
 use lib.ListN.{length}
 use Rattle.model.proofs.Accepted.{accepted}
-use Rattle.services.proofs.Holding.{sized-at}
+use Rattle.lent.proofs.Holding.{sized-at}
 use Rattle.lists.proofs.Laws
 use borrow.Author.Needs.{needs}
 use Rattle.lists.proofs.run_list.Statement.{statement}

@@ -12,7 +12,7 @@ use Rattle.model.proofs.Rows.{RowRanges}
 use Rattle.tables.specs.Shown as Shown
 use Rattle.ports.specs.Held.{rowOf}
 use Rattle.ranges.specs.Tested.{numbersFit, portFits, eachFits}
-use Rattle.services.proofs.Holding.{row-read}
+use Rattle.lent.proofs.Holding.{row-read}
 use Rattle.ranges.proofs.ports_fit.Statement.{statement}
 use Rattle.ranges.proofs.ports_fit.Tie as tie
 

@@ -1,6 +1,6 @@
 -- `calls::calling::service` meets its contract, by code. Assumes nothing.
 use Rattle.events.specs.Shown.{callOf}
-use Rattle.services.specs.Did.{shown}
+use Rattle.lent.specs.Did.{shown}
 use Rattle.calls.proofs.Laws.{rows-of, refused-does}
 use Rattle.calls.proofs.ByCode.{by-idle, by-create, by-get-id, by-set-mode, by-own}
 use borrow.Author.Needs.{needs}

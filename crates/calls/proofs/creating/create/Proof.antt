@@ -9,9 +9,9 @@ use Rattle.model.proofs.Accepted.{accepted}
 use Rattle.tables.specs.Shown as Shown
 use Rattle.events.specs.Shown.{callOf}
 use Rattle.ports.specs.Held.{portAt}
-use Rattle.services.specs.Did.{shown}
-use Rattle.services.specs.Served.{Serves}
-use Rattle.services.proofs.Holding.{row-read, shown-port}
+use Rattle.lent.specs.Did.{shown}
+use Rattle.lent.specs.Served.{Serves}
+use Rattle.lent.proofs.Holding.{row-read, shown-port}
 use Rattle.calls.proofs.Laws.{rows-of, refused-does, serves-does, create-none, create-found}
 use native.Mathlib.Numerals.{add-one}
 use Rattle.model.specs.Tables.{rowAt}

@@ -1,7 +1,7 @@
 -- `calls::creating::make` meets its contract: the tests in their order. Assumes nothing.
 use Rattle.tables.specs.Shown as Shown
 use Rattle.events.specs.Shown.{callOf}
-use Rattle.services.proofs.Cases.{kept}
+use Rattle.lent.proofs.Refused.{kept}
 use Rattle.calls.proofs.Laws.{made-again, made-unlike, made-normal, made-done}
 use Rattle.ports.proofs.Marks.{put-created}
 use borrow.Author.Needs.{needs}

@@ -5,7 +5,7 @@ use lib.Dec.{eqb}
 use lib.ListN.{getD, set}
 use mathlib.Core.Logic.{⊎-elim}
 use mathlib.Core.Bool.{false, _&&_, and-false}
-use Rattle.services.specs.Did.{shown}
+use Rattle.lent.specs.Did.{shown}
 use Rattle.calls.proofs.Laws
 use borrow.Author.Needs.{needs}
 use Rattle.calls.proofs.modes.set_mode.Statement.{statement}

@@ -10,9 +10,9 @@ use Rattle.model.proofs.Accepted.{accepted}
 use Rattle.tables.specs.Shown as Shown
 use Rattle.events.specs.Shown.{callOf}
 use Rattle.ports.specs.Held.{portAt}
-use Rattle.services.specs.Did.{shown}
-use Rattle.services.specs.Served.{Serves}
-use Rattle.services.proofs.Holding.{fits-of, row-read, shown-port}
+use Rattle.lent.specs.Did.{shown}
+use Rattle.lent.specs.Served.{Serves}
+use Rattle.lent.proofs.Holding.{fits-of, row-read, shown-port}
 use Rattle.calls.proofs.Laws
 use Rattle.calls.proofs.Laws.{refused-does}
 use borrow.Author.Needs.{needs}

@@ -8,7 +8,7 @@ use borrow.Author.Needs.{needs}
 use borrow.Rule.Slice.PartMut.{post-is}
 use Rattle.model.specs.Step.{answer, doer, reply}
 use Rattle.events.specs.Shown.{answerBytes}
-use Rattle.services.specs.Did.{shown}
+use Rattle.lent.specs.Did.{shown}
 use Rattle.steps.specs.Stepped.{clockOf, Answers}
 use Rattle.steps.proofs.Bytes.{bytes-replied}
 use borrow.Author.Needs.{needs}

@@ -5,7 +5,7 @@ use borrow.Author.Needs.{needs}
 use Rattle.model.specs.Services.{service}
 use Rattle.model.proofs.Accepted.{accepted}
 use Rattle.events.specs.Shown.{callOf}
-use Rattle.services.specs.Did.{shown}
+use Rattle.lent.specs.Did.{shown}
 use Rattle.calls.proofs.Laws.{refused-does}
 use Rattle.steps.specs.Stepped.{clockOf}
 use Rattle.steps.proofs.Laws
