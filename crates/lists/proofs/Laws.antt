@@ -17,7 +17,8 @@ use Rattle.events.specs.declared.clock.Clock.{Clock}
 use Rattle.lent.specs.declared.Layout.{Layout}
 use Rattle.lent.specs.Did.{Laid}
 use Rattle.lent.proofs.Holding.{held-of}
-use Rattle.steps.specs.Stepped.{Ready, Runs}
+use Rattle.turns.specs.Turned.{Ready}
+use Rattle.steps.specs.Stepped.{Runs}
 use Rattle.ranges.specs.Tested.{indexed}
 use Rattle.settling.specs.Settled.{PutTogether}
 use Rattle.states.specs.declared.State.{State}

@@ -21,7 +21,8 @@ use Rattle.events.specs.declared.clock.Clock.{Clock}
 use Rattle.lent.specs.declared.Layout.{Layout}
 use Rattle.lent.specs.Did.{Held, shown}
 use Rattle.lent.proofs.Holding.{held-of}
-use Rattle.steps.specs.Stepped.{clockOf, Ready, LeavesAt, RunsTo}
+use Rattle.turns.specs.Turned.{clockOf, Ready}
+use Rattle.steps.specs.Stepped.{LeavesAt, RunsTo}
 
 -- one record more
 cut-next : (n : ℕ) (b : List ℕ) → cut 80 (suc n) b ≡ cut 80 n b ++ take 80 (drop (80 * n) b) ∷ []

@@ -1,2 +1,2 @@
--- One event over the lent arrays, and a list of them.
+-- A list of events over the lent arrays.
 pub mod Stepped

@@ -1,4 +1,4 @@
--- `steps::turns::tick` meets its contract: the next window, or the first. Assumes nothing.
+-- `turns::tick` meets its contract: the next window, or the first. Assumes nothing.
 use Prim.Native.Nat.{suc, _+_, _≤_, _<_}
 use mathlib.Core.Path.{sym, _∙_, ap}
 use native.Mathlib.Omega.{arith}
@@ -7,11 +7,11 @@ use borrow.Author.Needs.{needs}
 use Rattle.model.specs.Tables.{windows}
 use Rattle.model.specs.State.{wrap}
 use Rattle.model.proofs.Accepted.{accepted}
-use Rattle.steps.specs.Stepped.{clockOf}
-use Rattle.steps.proofs.Laws
+use Rattle.turns.specs.Turned.{clockOf}
+use Rattle.turns.proofs.Laws
 use borrow.Author.Needs.{needs}
-use Rattle.steps.proofs.turns.tick.Statement.{statement}
-use Rattle.steps.proofs.turns.tick.Tie as tie
+use Rattle.turns.proofs.tick.Statement.{statement}
+use Rattle.turns.proofs.tick.Tie as tie
 
 window-length-requires : tie.Need-window-length-requires
 window-length-requires c κs =

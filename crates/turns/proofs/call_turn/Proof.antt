@@ -1,4 +1,4 @@
--- `steps::turns::call_turn` meets its contract: nobody in a mover window, else the caller. Assumes nothing.
+-- `turns::call_turn` meets its contract: nobody in a mover window, else the caller. Assumes nothing.
 use mathlib.Core.Path.{sym, _∙_, subst}
 use native.Mathlib.Omega.{arith}
 use borrow.Author.Needs.{needs}
@@ -7,11 +7,11 @@ use Rattle.model.proofs.Accepted.{accepted}
 use Rattle.events.specs.Shown.{callOf}
 use Rattle.lent.specs.Did.{shown}
 use Rattle.calls.proofs.Laws.{refused-does}
-use Rattle.steps.specs.Stepped.{clockOf}
-use Rattle.steps.proofs.Laws
+use Rattle.turns.specs.Turned.{clockOf}
+use Rattle.turns.proofs.Laws
 use borrow.Author.Needs.{needs}
-use Rattle.steps.proofs.turns.call_turn.Statement.{statement}
-use Rattle.steps.proofs.turns.call_turn.Tie as tie
+use Rattle.turns.proofs.call_turn.Statement.{statement}
+use Rattle.turns.proofs.call_turn.Tie as tie
 
 window-partition-requires : tie.Need-window-partition-requires
 window-partition-requires c κs =

@@ -9,7 +9,7 @@ ghost use Rattle.model.specs.State.{tick};
 ghost use Rattle.model.specs.Events.{decode, call, move};
 ghost use Rattle.events.specs.Shown.{callOf};
 ghost use Rattle.lent.specs.Did.{Laid};
-ghost use Rattle.steps.specs.Stepped.{clockOf, Ready, Answers};
+ghost use Rattle.turns.specs.Turned.{clockOf, Ready, Answers};
 use events::Answer;
 use events::Asked;
 use events::Clock;
@@ -30,7 +30,7 @@ pub struct Turned {
 }
 
 // Time grows by the current window's length; next window, after the last the first.
-pub fn tick(t: &[u8], lay: Layout, clock: Clock) -> Clock
+fn tick(t: &[u8], lay: Layout, clock: Clock) -> Clock
     requires { ⌜ (accepts (now t) ≡ true) × Laid (now t) lay × (clock .window < windows (now t)) ⌝ }
     ensures { λ r. ⌜ clockOf r ≡ tick (now (t .entry)) (clockOf clock) ⌝ }
 {

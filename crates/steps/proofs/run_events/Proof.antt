@@ -1,4 +1,4 @@
--- `steps::runs::run_events` meets its contract: after i turns the first i events are run. Assumes nothing.
+-- `steps::run_events` meets its contract: after i turns the first i events are run. Assumes nothing.
 use Prim.Native.Nat.{_-_, _/_, _^_, _≤_, _<_}
 use mathlib.Core.Path.{_≡_, refl, _∙_, subst}
 use native.Mathlib.Omega.{arith}
@@ -6,8 +6,8 @@ use lib.ListN.{length}
 use borrow.Author.Needs.{needs}
 use Rattle.steps.specs.Stepped.{RunsTo}
 use Rattle.steps.proofs.OneMore.{none-yet, one-more}
-use Rattle.steps.proofs.runs.run_events.Statement.{statement}
-use Rattle.steps.proofs.runs.run_events.Tie as tie
+use Rattle.steps.proofs.run_events.Statement.{statement}
+use Rattle.steps.proofs.run_events.Tie as tie
 
 abbrev Inv-loop : tie.InvT-loop
 Inv-loop t lay modes₀ numbers₀ bytes₀ events answers₀ n present₀ i₀ modes numbers bytes answers present i =

@@ -21,7 +21,7 @@ use Rattle.events.specs.declared.answers.Answer.{Answer}
 use Rattle.events.specs.declared.clock.Clock.{Clock}
 use Rattle.events.specs.Shown.{replied, toldAs}
 use Rattle.lent.specs.Did.{shown, Does}
-use Rattle.steps.specs.Stepped.{clockOf, Answers}
+use Rattle.turns.specs.Turned.{clockOf, Answers}
 
 -- an event's doer and reply
 pub record At (t : Tables) (s : State) (e : Event) (d : ℕ) (x : Reply) : Type 0 where

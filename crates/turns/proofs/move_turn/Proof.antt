@@ -1,14 +1,14 @@
--- `steps::turns::move_turn` meets its contract: nobody in a partition's window or where there is no such channel, else the channel. Assumes nothing.
+-- `turns::move_turn` meets its contract: nobody in a partition's window or where there is no such channel, else the channel. Assumes nothing.
 use mathlib.Core.Path.{sym, _∙_}
 use native.Mathlib.Omega.{arith}
 use borrow.Author.Needs.{needs}
 use Rattle.model.proofs.Accepted.{accepted}
 use Rattle.calls.proofs.Laws.{refused-does}
-use Rattle.steps.specs.Stepped.{clockOf}
-use Rattle.steps.proofs.Laws
+use Rattle.turns.specs.Turned.{clockOf}
+use Rattle.turns.proofs.Laws
 use borrow.Author.Needs.{needs}
-use Rattle.steps.proofs.turns.move_turn.Statement.{statement}
-use Rattle.steps.proofs.turns.move_turn.Tie as tie
+use Rattle.turns.proofs.move_turn.Statement.{statement}
+use Rattle.turns.proofs.move_turn.Tie as tie
 
 window-partition-requires : tie.Need-window-partition-requires
 window-partition-requires c κs =

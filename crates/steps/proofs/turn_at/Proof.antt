@@ -1,4 +1,4 @@
--- `steps::runs::turn_at` meets its contract: the turn, and its answer laid in record i. Assumes nothing.
+-- `steps::turn_at` meets its contract: the turn, and its answer laid in record i. Assumes nothing.
 use Prim.Native.Nat.{_+_, _*_, _-_}
 use mathlib.Core.Path.{_≡_, _∙_, ap, ap₂, subst}
 use mathlib.Core.List.{_++_}
@@ -9,11 +9,11 @@ use borrow.Rule.Slice.PartMut.{post-is}
 use Rattle.model.specs.Step.{answer, doer, reply}
 use Rattle.events.specs.Shown.{answerBytes}
 use Rattle.lent.specs.Did.{shown}
-use Rattle.steps.specs.Stepped.{clockOf, Answers}
+use Rattle.turns.specs.Turned.{clockOf, Answers}
 use Rattle.steps.proofs.Bytes.{bytes-replied}
 use borrow.Author.Needs.{needs}
-use Rattle.steps.proofs.runs.turn_at.Statement.{statement}
-use Rattle.steps.proofs.runs.turn_at.Tie as tie
+use Rattle.steps.proofs.turn_at.Statement.{statement}
+use Rattle.steps.proofs.turn_at.Tie as tie
 
 mul-at : tie.Need-mul-at
 mul-at c = search needs

@@ -1,13 +1,13 @@
--- `steps::turns::turn` meets its contract, by what the event asks. Assumes nothing.
+-- `turns::turn` meets its contract, by what the event asks. Assumes nothing.
 use mathlib.Core.Path.{sym, _∙_, ap}
 use borrow.Author.Needs.{needs}
 use Rattle.events.specs.Shown.{askedOf}
 use Rattle.calls.proofs.Laws.{refused-does}
-use Rattle.steps.specs.Stepped.{clockOf}
-use Rattle.steps.proofs.Laws
+use Rattle.turns.specs.Turned.{clockOf}
+use Rattle.turns.proofs.Laws
 use borrow.Author.Needs.{needs}
-use Rattle.steps.proofs.turns.turn.Statement.{statement}
-use Rattle.steps.proofs.turns.turn.Tie as tie
+use Rattle.turns.proofs.turn.Statement.{statement}
+use Rattle.turns.proofs.turn.Tie as tie
 
 decode-requires : tie.Need-decode-requires
 decode-requires c κs = search needs

@@ -1,0 +1,2 @@
+-- One event over the lent arrays.
+pub mod Turned
