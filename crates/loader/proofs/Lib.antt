@@ -1,4 +1,2 @@
-pub mod ChannelEnds
 pub mod Faults
-pub mod Searched
 pub mod Unique

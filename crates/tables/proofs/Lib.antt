@@ -1,3 +1,4 @@
+pub mod Answers
 pub mod Decoded
 pub mod Places
 pub mod Searched

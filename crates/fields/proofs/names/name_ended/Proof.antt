@@ -9,7 +9,7 @@ use native.Mathlib.Numerals.{add-one}
 use Rattle.model.specs.Words.{all}
 use Rattle.model.proofs.Searches.{all-more, all-stop, all-end}
 use Rattle.fields.specs.Pieces.{ended}
-use Rattle.fields.proofs.Answers.{fails, holds}
+use Rattle.tables.proofs.Answers.{fails, holds}
 use Rattle.fields.proofs.Searched.{follows}
 
 abbrev Inv-loop : tie.InvT-loop

@@ -4,7 +4,7 @@ use borrow.Author.Needs.{needs}
 use Rattle.fields.proofs.names.port_name_fault.Statement.{statement}
 use Rattle.fields.proofs.names.port_name_fault.Tie as tie
 use Rattle.model.specs.Load.{portNameFault}
-use Rattle.fields.proofs.Answers.{fails, holds}
+use Rattle.tables.proofs.Answers.{fails, holds}
 
 mul-name-fits : tie.Need-mul-name-fits
 mul-name-fits c = search needs

@@ -6,7 +6,7 @@ use Rattle.fields.proofs.ranges.channel_fits.Tie as tie
 use mathlib.Core.Path.{ap, _∙_}
 use Rattle.model.specs.Words.{between}
 use Rattle.model.specs.Load.{channelFits}
-use Rattle.fields.proofs.Answers.{fails, holds}
+use Rattle.tables.proofs.Answers.{fails, holds}
 
 mul-count : tie.Need-mul-count
 mul-count c = search needs

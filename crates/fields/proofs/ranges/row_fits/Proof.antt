@@ -6,7 +6,7 @@ use Rattle.fields.proofs.ranges.row_fits.Tie as tie
 use borrow.Author.Tests.{le-leb, lt-leb}
 use Rattle.model.specs.Tables.{rowAt}
 use Rattle.model.specs.Load.{rowFits}
-use Rattle.fields.proofs.Answers.{fails, holds}
+use Rattle.tables.proofs.Answers.{fails, holds}
 
 mul-at : tie.Need-mul-at
 mul-at c = search needs

@@ -4,7 +4,7 @@ use borrow.Author.Needs.{needs}
 use Rattle.fields.proofs.ranges.window_fits.Statement.{statement}
 use Rattle.fields.proofs.ranges.window_fits.Tie as tie
 use Rattle.model.specs.Load.{windowFits}
-use Rattle.fields.proofs.Answers.{fails, holds}
+use Rattle.tables.proofs.Answers.{fails, holds}
 
 window-partition-requires : tie.Need-window-partition-requires
 window-partition-requires c κs = search needs

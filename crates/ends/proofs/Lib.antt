@@ -1,0 +1,2 @@
+pub mod ChannelEnds
+pub mod Searched
