@@ -11,18 +11,10 @@ use borrow.Author.Tests.{eq-eqb, ne-eqb, le-leb, leb-true}
 use Rattle.model.specs.Words.{between}
 use Rattle.model.specs.Tables.{Tables, records, windows, portsEnd, ports, queuing, source, rowAt, portRecord, destinationsAt, endAt}
 use Rattle.model.specs.Load.{idRow, endFits, countFits}
+use Rattle.model.proofs.Tests.{both-left, both-right}
 use Rattle.tables.proofs.Places.{ports-within}
 use Rattle.ends.specs.Pieces.{takesFrom}
 use Rattle.ends.specs.Known.{Placed, SourceRecord}
-
--- of a conjunction that holds both parts hold
-left : (a b : Bool) → a && b ≡ true → a ≡ true
-left true b e = refl
-left false b e = e
-
-right : (a b : Bool) → a && b ≡ true → b ≡ true
-right true b e = e
-right false b e = absurd (false≢true e)
 
 and-true : (a : Bool) → a && true ≡ a
 and-true true = refl
@@ -33,7 +25,7 @@ pub record Within (low high x : ℕ) : Type 0 where
   pub most : x ≤ high
 
 pub within : (low high x : ℕ) → between low high x ≡ true → Within low high x
-within low high x e = record { least = leb-true low x (left _ _ e); most = leb-true x high (right (leb low x) _ e) }
+within low high x e = record { least = leb-true low x (both-left _ _ e); most = leb-true x high (both-right (leb low x) _ e) }
 
 -- whether an id has a row, and in which record, as the loader asks it: by where the ports and the channels start
 module _ {t : Tables} {port channel r : ℕ} (placed : Placed t port channel r) where
@@ -58,7 +50,7 @@ unfolding endFits
 source-end t r = rw (eq-eqb (idRow t (endAt t r 0) .mode) _ refl, le-leb (idRow t (endAt t r 0) .largest) _ (le-refl _)) (and-true _ ∙ and-true _)
 
 pub source-rowed : (t : Tables) (r : ℕ) → endFits t r 0 ≡ true → between 1 (ports t) (endAt t r 0) ≡ true
-source-rowed t r e = left _ _ (sym (source-end t r) ∙ e)
+source-rowed t r e = both-left _ _ (sym (source-end t r) ∙ e)
 
 pub source-known : {t : Tables} {port channel r id q : ℕ} → Placed t port channel r → endFits t r 0 ≡ true → id ≡ endAt t r 0
     → q ≡ port + (id - 1) → SourceRecord t r q

@@ -1,2 +1,3 @@
 pub mod ChannelEnds
 pub mod Searched
+pub mod Taking

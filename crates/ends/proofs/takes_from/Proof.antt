@@ -3,13 +3,17 @@
 use borrow.Author.Needs.{needs}
 use Rattle.ends.proofs.takes_from.Statement.{statement}
 use Rattle.ends.proofs.takes_from.Tie as tie
-use borrow.Author.Tests.{eq-eqb, ne-eqb}
+use mathlib.Core.Path.{sym}
+use Rattle.model.specs.Tables.{rowAt}
+use Rattle.ends.proofs.Taking.{no-destination, other-mode, large-enough}
 
 row-direction-requires : tie.Need-row-direction-requires
 row-direction-requires c κs = search needs
 
 returns : tie.Need-returns
-returns c = rw (← c .before .row-direction .ensures, ne-eqb _ 1 (c .if1 .taken))
+returns c =
+    let a = c .before .before .before .args in
+    sym (no-destination (rowAt (a .t .now) (a .q)) (rowAt (a .t .now) (a .source)) (c .before .row-direction .ensures) (c .if1 .taken))
 
 row-mode-requires : tie.Need-row-mode-requires
 row-mode-requires c κs = search needs
@@ -20,13 +24,8 @@ row-mode-requires-2 c κs = search needs
 returns-2 : tie.Need-returns-2
 returns-2 c =
     let one = c .before .before .before in
-    rw (
-      ← one .before .row-direction .ensures,
-      eq-eqb _ 1 (one .if1 .left),
-      ← c .before .before .row-mode .ensures,
-      ← c .before .row-mode2 .ensures,
-      ne-eqb _ _ (c .if2 .taken),
-    )
+    let a = one .before .before .before .args in
+    sym (other-mode (rowAt (a .t .now) (a .q)) (rowAt (a .t .now) (a .source)) (one .before .row-direction .ensures) (one .if1 .left) (c .before .before .row-mode .ensures) (c .before .row-mode2 .ensures) (c .if2 .taken))
 
 row-largest-requires : tie.Need-row-largest-requires
 row-largest-requires c κs = search needs
@@ -38,15 +37,8 @@ returns-3 : tie.Need-returns-3
 returns-3 c =
     let two = c .before .before in
     let one = two .before .before .before in
-    rw (
-      ← one .before .row-direction .ensures,
-      eq-eqb _ 1 (one .if1 .left),
-      ← two .before .before .row-mode .ensures,
-      ← two .before .row-mode2 .ensures,
-      eq-eqb _ _ (two .if2 .left),
-      ← c .before .row-largest .ensures,
-      ← c .row-largest2 .ensures,
-    )
+    let a = one .before .before .before .args in
+    sym (large-enough (rowAt (a .t .now) (a .q)) (rowAt (a .t .now) (a .source)) (one .before .row-direction .ensures) (one .if1 .left) (two .before .before .row-mode .ensures) (two .before .row-mode2 .ensures) (two .if2 .left) (c .row-largest2 .ensures) (c .before .row-largest .ensures))
 
 pub takes-from-spec : {M : Type 1} → statement M
 takes-from-spec =

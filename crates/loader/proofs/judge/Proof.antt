@@ -3,18 +3,15 @@
 use borrow.Author.Needs.{needs}
 use Rattle.loader.proofs.judge.Statement.{statement}
 use Rattle.loader.proofs.judge.Tie as tie
-use mathlib.Core.Path.{sym, _∙_}
+use mathlib.Core.Path.{sym}
 use native.Mathlib.Omega.{arith}
-use borrow.Author.Tests.{eq-eqb, ne-eqb, lt-ltb, le-ltb}
-use Rattle.model.specs.Load.{loadOf}
-use Rattle.loader.proofs.Faults.{judged}
+use Rattle.loader.proofs.Faults.{unwhole, with-fault, without-window, faultless}
 
 length-fault-requires : tie.Need-length-fault-requires
 length-fault-requires c κs = search needs
 
 returns : tie.Need-returns
-unfolding loadOf
-returns c = rw (← c .before .length-fault .ensures, c .if1 .taken)
+returns c = sym (unwhole _ (c .before .length-fault .ensures) (c .if1 .taken))
 
 windows-requires : tie.Need-windows-requires
 windows-requires c κs = search needs
@@ -42,34 +39,19 @@ returns-2 : tie.Need-returns-2
 returns-2 c =
     let found = c .before .before in
     let placed = found .before .before .before in
-    let whole = sym (placed .before .before .length-fault .ensures) ∙ placed .before .if1 .left in
-    rw (
-      judged _ whole (found .first-fault .ensures) (found .before .records .ensures) (placed .windows .ensures),
-      lt-ltb _ _ (c .before .if2 .taken),
-      ← c .fault .ensures,
-    )
+    sym (with-fault _ (placed .before .before .length-fault .ensures) (placed .before .if1 .left) (found .first-fault .ensures) (found .before .records .ensures) (c .before .if2 .taken) (c .fault .ensures))
 
 returns-3 : tie.Need-returns-3
 returns-3 c =
     let found = c .before .before in
     let placed = found .before .before .before in
-    let whole = sym (placed .before .before .length-fault .ensures) ∙ placed .before .if1 .left in
-    rw (
-      judged _ whole (found .first-fault .ensures) (found .before .records .ensures) (placed .windows .ensures),
-      le-ltb _ _ (c .before .if2 .left),
-      eq-eqb _ 0 (c .if3 .taken),
-    )
+    sym (without-window _ (placed .before .before .length-fault .ensures) (placed .before .if1 .left) (found .first-fault .ensures) (found .before .records .ensures) (c .before .if2 .left) (placed .windows .ensures) (c .if3 .taken))
 
 returns-4 : tie.Need-returns-4
 returns-4 c =
     let found = c .before .before in
     let placed = found .before .before .before in
-    let whole = sym (placed .before .before .length-fault .ensures) ∙ placed .before .if1 .left in
-    rw (
-      judged _ whole (found .first-fault .ensures) (found .before .records .ensures) (placed .windows .ensures),
-      le-ltb _ _ (c .before .if2 .left),
-      ne-eqb _ 0 (c .if3 .left),
-    )
+    sym (faultless _ (placed .before .before .length-fault .ensures) (placed .before .if1 .left) (found .first-fault .ensures) (found .before .records .ensures) (c .before .if2 .left) (placed .windows .ensures) (c .if3 .left))
 
 pub judge-spec : {M : Type 1} → statement M
 judge-spec =

@@ -1,6 +1,6 @@
 -- `kernel::reader::read` meets its contract: the stretch, which lies within the answers. Assumes nothing.
 use Prim.Native.Nat.{_+_, _-_, _^_, _<_}
-use mathlib.Core.Path.{_≡_, _∙_, ap₂}
+use mathlib.Core.Path.{_≡_, _∙_, ap, ap₂}
 use native.Mathlib.Omega.{arith}
 use lib.ListN.{length, take, drop}
 use borrow.Author.Needs.{needs}
@@ -48,7 +48,7 @@ returns c =
     let p = c .before .before .place .ensures in
     let x = c .before .before .place .result in
     let size : x .from + x .size - x .from ≡ x .size = omega arith in
-    (rw size) ∙ ap₂ (λ f k. take k (drop f b)) (p .from) (p .size)
+    ap (λ k. take k (drop (x .from) b)) size ∙ ap₂ (λ f k. take k (drop f b)) (p .from) (p .size)
 
 pub read-spec : {M : Type 1} → statement M
 read-spec =
