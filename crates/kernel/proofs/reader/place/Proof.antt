@@ -1,10 +1,11 @@
 -- `kernel::reader::place` meets its contract: the empty stretch, or where the message stands. Assumes nothing.
-use Prim.Native.Nat.{_^_, _<_}
-use mathlib.Core.Path.{sym, _∙_, ap}
+use Prim.Native.Nat.{_/_, _^_, _<_}
+use mathlib.Core.Path.{_≡_, sym, _∙_, ap}
+use mathlib.Core.Bool.{true}
 use native.Mathlib.Omega.{arith}
 use lib.ListN.{length}
-use borrow.Author.Needs.{needs}
 use borrow.Author.Tests.{not-true, not-false}
+use Rattle.model.specs.Answers.{isHanded}
 use Rattle.kernel.proofs.Laws
 use borrow.Author.Needs.{needs}
 use Rattle.kernel.proofs.reader.place.Statement.{statement}
@@ -24,61 +25,34 @@ returns c =
     let e = Laws.none-handed b n (sym (c .before .is-handed .ensures) ∙ not-true _ (c .if1 .taken)) in
     record { from = sym (ap (λ x. x .from) e); size = sym (ap (λ x. x .size) e) }
 
+-- a record that is handed out lies within the answers
+is-there : (c : tie.Else1) → isHanded (c .before .before .before .args .answers .now) (c .before .before .before .args .number) ≡ true
+is-there c = sym (c .before .is-handed .ensures) ∙ not-false _ (c .if1 .left)
+
+inside : (c : tie.Else1) → c .before .before .before .args .number < length (c .before .before .before .args .answers .now) / 80
+inside c = Laws.handed-there _ _ (is-there c)
+
 mul-t5 : tie.Need-mul-t5
-mul-t5 c =
-    let s = c .before .before .before in
-    let b = s .args .answers .now in
-    let n = s .args .number in
-    let h = sym (c .before .is-handed .ensures) ∙ not-false _ (c .if1 .left) in
-    let there = Laws.handed-there b n h in
-    record { fits = omega (arith, there, few-bytes s) }
+mul-t5 c = record { fits = omega (arith, inside c, few-bytes (c .before .before .before)) }
 
 add-t6 : tie.Need-add-t6
-add-t6 c =
-    let s = c .before .before .before in
-    let b = s .args .answers .now in
-    let n = s .args .number in
-    let h = sym (c .before .is-handed .ensures) ∙ not-false _ (c .if1 .left) in
-    let there = Laws.handed-there b n h in
-    record { fits = omega (arith, there, few-bytes s) }
+add-t6 c = record { fits = omega (arith, inside c, few-bytes (c .before .before .before)) }
 
 mul-word32 : tie.Need-mul-word32
-mul-word32 c =
-    let s = c .before .before .before in
-    let b = s .args .answers .now in
-    let n = s .args .number in
-    let h = sym (c .before .is-handed .ensures) ∙ not-false _ (c .if1 .left) in
-    let there = Laws.handed-there b n h in
-    record { fits = omega (arith, there, few-bytes s) }
+mul-word32 c = record { fits = omega (arith, inside c, few-bytes (c .before .before .before)) }
 
 add-word32 : tie.Need-add-word32
-add-word32 c =
-    let s = c .before .before .before in
-    let b = s .args .answers .now in
-    let n = s .args .number in
-    let h = sym (c .before .is-handed .ensures) ∙ not-false _ (c .if1 .left) in
-    let there = Laws.handed-there b n h in
-    record { fits = omega (arith, there, few-bytes s) }
+add-word32 c = record { fits = omega (arith, inside c, few-bytes (c .before .before .before)) }
 
 word32-requires : tie.Need-word32-requires
-word32-requires c κs =
-    let s = c .before .before .before in
-    let b = s .args .answers .now in
-    let n = s .args .number in
-    let h = sym (c .before .is-handed .ensures) ∙ not-false _ (c .if1 .left) in
-    let there = Laws.handed-there b n h in
-    omega (arith, there)
+word32-requires c κs = omega (arith, inside c)
 
 cast-t10 : tie.Need-cast-t10
 cast-t10 c = search needs
 
 returns-2 : tie.Need-returns-2
 returns-2 c =
-    let s = c .before .before .before .before in
-    let b = s .args .answers .now in
-    let n = s .args .number in
-    let h = sym (c .before .before .is-handed .ensures) ∙ not-false _ (c .before .if1 .left) in
-    let e = Laws.one-handed b n h in
+    let e = Laws.one-handed _ _ (is-there (c .before)) in
     record { from = sym (ap (λ x. x .from) e); size = c .word32 .ensures ∙ sym (ap (λ x. x .size) e) }
 
 pub place-spec : {M : Type 1} → statement M
