@@ -1,7 +1,7 @@
 -- What the public calls' proofs lean on: the refusals of a list, and the reader's tests.
 -- Assumes nothing.
 use Prim.Native.Nat.{ℕ, _+_, _*_, _/_, _%_, _≤_, _<_}
-use mathlib.Core.Path.{_≡_, refl, sym, _∙_}
+use mathlib.Core.Path.{_≡_, refl, sym, _∙_, ap, subst}
 use mathlib.Core.Bool.{Bool, true, false, _&&_}
 use mathlib.Core.List.{List}
 use native.Mathlib.Omega.{arith}
@@ -15,6 +15,7 @@ use Rattle.model.proofs.Tests.{both-left, both-right}
 use Rattle.states.specs.declared.State.{State}
 use Rattle.states.specs.Shown.{isSound}
 use Rattle.lists.specs.Carried.{CarriedOut}
+use Rattle.kernel.specs.declared.Ran.{Ran}
 use Rattle.kernel.specs.Meets.{stateAfter, answersAfter, ListMeets}
 
 -- the refusals of a list
@@ -41,6 +42,14 @@ refuses fault n t st events buffer e z =
     record { refusal = sym e; state = rw (e, ne-eqb n 0 z); answered = rw (e, ne-eqb n 0 z) }
 
 module _ (t : List ℕ) (st : State) (events buffer : List ℕ) where
+  -- 27 where the bytes are not whole, and else what the list gives
+  pub refuses-27 : {whole : Bool} → whole ≡ false → ListMeets (listFault whole events buffer (isSound t st)) t st events buffer (record { refusal = 27; state = st }) buffer
+  refuses-27 e = refuses _ 27 t st events buffer (ap (λ w. listFault w events buffer (isSound t st)) e ∙ fault-27 events buffer (isSound t st)) (λ z. omega arith)
+
+  pub runs-whole : {whole : Bool} → whole ≡ true → {r : Ran} {buffer' : List ℕ} → ListMeets (listFault true events buffer (isSound t st)) t st events buffer r buffer'
+      → ListMeets (listFault whole events buffer (isSound t st)) t st events buffer r buffer'
+  runs-whole e {r} {buffer'} = subst (λ w. ListMeets (listFault w events buffer (isSound t st)) t st events buffer r buffer') (sym e)
+
   pub refuses-28 : length buffer < length events → ListMeets (listFault true events buffer (isSound t st)) t st events buffer (record { refusal = 28; state = st }) buffer
   refuses-28 h = refuses _ 28 t st events buffer (fault-28 events buffer (isSound t st) h) (λ z. omega arith)
 

@@ -3,7 +3,6 @@ use mathlib.Core.Path.{sym, _∙_, ap}
 use borrow.Author.Needs.{needs}
 use Rattle.model.specs.Load.{isAccepted, accepts}
 use Rattle.loader.specs.Shown.{verdictOf}
-use borrow.Author.Needs.{needs}
 use Rattle.kernel.proofs.load.Statement.{statement}
 use Rattle.kernel.proofs.load.Tie as tie
 

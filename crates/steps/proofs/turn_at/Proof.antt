@@ -11,7 +11,6 @@ use Rattle.events.specs.Shown.{answerBytes}
 use Rattle.lent.specs.Did.{shown}
 use Rattle.turns.specs.Turned.{clockOf, Answers}
 use Rattle.steps.proofs.Bytes.{bytes-replied}
-use borrow.Author.Needs.{needs}
 use Rattle.steps.proofs.turn_at.Statement.{statement}
 use Rattle.steps.proofs.turn_at.Tie as tie
 

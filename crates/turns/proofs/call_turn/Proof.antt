@@ -9,7 +9,6 @@ use Rattle.lent.specs.Did.{shown}
 use Rattle.calls.proofs.Laws.{refused-does}
 use Rattle.turns.specs.Turned.{clockOf}
 use Rattle.turns.proofs.Laws
-use borrow.Author.Needs.{needs}
 use Rattle.turns.proofs.call_turn.Statement.{statement}
 use Rattle.turns.proofs.call_turn.Tie as tie
 

@@ -6,7 +6,6 @@ use Rattle.model.proofs.Accepted.{accepted}
 use Rattle.calls.proofs.Laws.{refused-does}
 use Rattle.turns.specs.Turned.{clockOf}
 use Rattle.turns.proofs.Laws
-use borrow.Author.Needs.{needs}
 use Rattle.turns.proofs.move_turn.Statement.{statement}
 use Rattle.turns.proofs.move_turn.Tie as tie
 

@@ -9,7 +9,6 @@ use Rattle.model.specs.State.{wrap}
 use Rattle.model.proofs.Accepted.{accepted}
 use Rattle.turns.specs.Turned.{clockOf}
 use Rattle.turns.proofs.Laws
-use borrow.Author.Needs.{needs}
 use Rattle.turns.proofs.tick.Statement.{statement}
 use Rattle.turns.proofs.tick.Tie as tie
 

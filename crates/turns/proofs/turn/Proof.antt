@@ -5,7 +5,6 @@ use Rattle.events.specs.Shown.{askedOf}
 use Rattle.calls.proofs.Laws.{refused-does}
 use Rattle.turns.specs.Turned.{clockOf}
 use Rattle.turns.proofs.Laws
-use borrow.Author.Needs.{needs}
 use Rattle.turns.proofs.turn.Statement.{statement}
 use Rattle.turns.proofs.turn.Tie as tie
 

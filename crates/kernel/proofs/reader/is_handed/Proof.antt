@@ -2,7 +2,6 @@
 use mathlib.Core.Path.{sym}
 use borrow.Author.Needs.{needs}
 use Rattle.kernel.proofs.Laws
-use borrow.Author.Needs.{needs}
 use Rattle.kernel.proofs.reader.is_handed.Statement.{statement}
 use Rattle.kernel.proofs.reader.is_handed.Tie as tie
 

@@ -6,7 +6,6 @@ use lib.ListN.{length, take, drop}
 use borrow.Author.Needs.{needs}
 use Rattle.model.specs.Answers.{handed}
 use Rattle.kernel.proofs.Laws
-use borrow.Author.Needs.{needs}
 use Rattle.kernel.proofs.reader.read.Statement.{statement}
 use Rattle.kernel.proofs.reader.read.Tie as tie
 
