@@ -6,7 +6,7 @@ use Rattle.model.specs.Services.{service}
 use Rattle.model.proofs.Accepted.{accepted}
 use Rattle.events.specs.Shown.{callOf}
 use Rattle.lent.specs.Did.{shown}
-use Rattle.calls.proofs.Laws.{refused-does}
+use Rattle.lent.proofs.Acts.{refused-does}
 use Rattle.steps.specs.Stepped.{clockOf}
 use Rattle.steps.proofs.Laws
 use borrow.Author.Needs.{needs}

@@ -3,7 +3,7 @@ use mathlib.Core.Path.{sym, _∙_}
 use native.Mathlib.Omega.{arith}
 use borrow.Author.Needs.{needs}
 use Rattle.model.proofs.Accepted.{accepted}
-use Rattle.calls.proofs.Laws.{refused-does}
+use Rattle.lent.proofs.Acts.{refused-does}
 use Rattle.steps.specs.Stepped.{clockOf}
 use Rattle.steps.proofs.Laws
 use borrow.Author.Needs.{needs}
