@@ -1,12 +1,12 @@
 -- `creating::names::look_up` meets its contract: the whole search is what is left of it. Assumes nothing.
-use Prim.Native.Nat.{_-_, _≤_, _<_}
-use mathlib.Core.Path.{_≡_, sym, _∙_, ap}
+use Prim.Native.Nat.{_-_, _≤_}
+use mathlib.Core.Path.{_≡_}
 use native.Mathlib.Omega.{arith}
 use borrow.Author.Needs.{needs}
 use Rattle.model.specs.Words.{first}
 use Rattle.model.specs.Tables.{ports}
 use Rattle.model.specs.Services.{isNamed, lookUp}
-use Rattle.model.proofs.Searches.{first-more, first-stop, first-end}
+use Rattle.creating.proofs.LookUp.{whole, found, passed, none}
 use Rattle.creating.proofs.names.look_up.Statement.{statement}
 use Rattle.creating.proofs.names.look_up.Tie as tie
 
@@ -17,11 +17,9 @@ abbrev μ-loop : tie.MeasureT-loop
 μ-loop t lay p mode event k₀ k = lay .ports - k
 
 loop-holds : tie.Need-loop-holds Inv-loop μ-loop
-unfolding lookUp
 loop-holds c =
-    let t = c .before .before .args .t .now in
-    let whole : ports t - 0 ≡ ports t = omega arith in
-    (omega arith, ap (λ n. first (isNamed t (c .before .before .args .p) (c .before .before .args .mode) (c .before .before .args .event .now)) n 0) (sym whole))
+    let a = c .before .before .args in
+    (omega arith, whole (a .t .now) (a .p) (a .mode) (a .event .now))
 
 is-named-requires : tie.Need-is-named-requires Inv-loop μ-loop
 is-named-requires c κs =
@@ -30,12 +28,10 @@ is-named-requires c κs =
 
 returns : tie.Need-returns Inv-loop μ-loop
 returns c =
-    let a = c .before .before .before .before .before .before .before .args in
-    let t = a .t .now in
-    let p = isNamed t (a .p) (a .mode) (a .event .now) in
-    let n = c .before .before .before .before .before .before .before .pre .0 .laid .ported in
-    let k = c .before .before .before .before .loop .k in
-    sym (c .before .before .before .before .loop .inv .1 ∙ first-stop p (ports t) k (omega (arith, n, c .before .before .if1 .taken)) (sym (c .before .is-named .ensures) ∙ c .if2 .taken))
+    let s = c .before .before .before .before .before .before .before in
+    let a = s .args in
+    let l = c .before .before .before .before .loop in
+    found (a .t .now) (a .p) (a .mode) (a .event .now) (l .k) (l .inv .1) (omega (arith, s .pre .0 .laid .ported, c .before .before .if1 .taken)) (c .before .is-named .ensures) (c .if2 .taken)
 
 add-k : tie.Need-add-k Inv-loop μ-loop
 add-k c = search needs
@@ -45,22 +41,17 @@ loop-less c = search needs
 
 loop-again : tie.Need-loop-again Inv-loop μ-loop
 loop-again c =
-    let a = c .before .before .before .before .before .before .before .args in
-    let t = a .t .now in
-    let p = isNamed t (a .p) (a .mode) (a .event .now) in
-    let n = c .before .before .before .before .before .before .before .pre .0 .laid .ported in
-    let k = c .before .before .before .before .loop .k in
-    let inside : k < ports t = omega (arith, n, c .before .before .if1 .taken) in
-    (omega arith, c .before .before .before .before .loop .inv .1 ∙ first-more p (ports t) k inside (sym (c .before .is-named .ensures) ∙ c .if2 .left))
+    let s = c .before .before .before .before .before .before .before in
+    let a = s .args in
+    let l = c .before .before .before .before .loop in
+    (omega arith, passed (a .t .now) (a .p) (a .mode) (a .event .now) (l .k) (l .inv .1) (omega (arith, s .pre .0 .laid .ported, c .before .before .if1 .taken)) (c .before .is-named .ensures) (c .if2 .left))
 
 returns-2 : tie.Need-returns-2 Inv-loop μ-loop
 returns-2 c =
-    let a = c .before .before .before .before .before .args in
-    let t = a .t .now in
-    let p = isNamed t (a .p) (a .mode) (a .event .now) in
-    let n = c .before .before .before .before .before .pre .0 .laid .ported in
-    let k = c .before .before .loop .k in
-    sym (c .before .before .loop .inv .1 ∙ first-end p (ports t) k (omega (arith, n, c .if1 .left)))
+    let s = c .before .before .before .before .before in
+    let a = s .args in
+    let l = c .before .before .loop in
+    none (a .t .now) (a .p) (a .mode) (a .event .now) (l .k) (l .inv .1) (omega (arith, s .pre .0 .laid .ported, c .if1 .left))
 
 pub look-up-spec : {M : Type 1} → statement M
 look-up-spec =
