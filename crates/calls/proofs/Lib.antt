@@ -1,4 +1,1 @@
-pub mod LookUp
-pub mod Laws
-pub mod Sweep
 pub mod ByCode

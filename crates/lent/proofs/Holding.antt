@@ -1,4 +1,4 @@
--- Lent arrays that hold the ports of accepted tables: when they do, each port with its row, and the state that the arrays show.
+-- Lent arrays that hold the ports of accepted tables: when they do, where the rows lie, each port with its row, and the state that the arrays show.
 -- Assumes nothing.
 use Prim.Native.Nat.{ℕ, _<_}
 use mathlib.Core.Path.{_≡_, refl, sym, _∙_, ap, subst}
@@ -23,6 +23,7 @@ use Rattle.ports.proofs.Ports.{ports-at, ports-put}
 use Rattle.lent.specs.declared.Layout.{Layout}
 use Rattle.lent.specs.Did.{Laid, Held, shown}
 use Rattle.lent.specs.Served.{Fits}
+use Rattle.lent.specs.Called.{Rows}
 use Rattle.lent.proofs.Contents.{sized-of}
 
 -- the port of the shown state is the arrays' port
@@ -45,6 +46,12 @@ held-of {t} {numbers = numbers} {bytes = bytes} ok laid rows blocks r =
       blocks = blocks;
       each = λ k h. subst (PortRanged (row t k)) (ports-at numbers bytes (portCount t) k h) (r .each k h);
     }
+
+-- accepted tables: where the rows lie, and that there are few
+pub rows-of : {t : Tables} {lay : Layout} {numbers bytes : List ℕ} → Held t lay numbers bytes → Rows t lay
+rows-of {t} h =
+    let a = accepted t (h .accepted) in
+    record { laid = h .laid; inside = omega (arith, a .portsAfter, a .channelsAfter); few = a .fewPorts }
 
 -- the row of port k, decoded, shows the model's row; port k fits it, and so does its store
 pub row-read : (t : Tables) → Accepted t → (k : ℕ) → k < portCount t → {r : PortRow} → r ≡ decoded (row t k) → Shown.rowOf r ≡ row t k

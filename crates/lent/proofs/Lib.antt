@@ -1,3 +1,4 @@
 pub mod Contents
 pub mod Refused
 pub mod Holding
+pub mod Acts

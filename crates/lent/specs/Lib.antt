@@ -1,3 +1,4 @@
--- What a service at one port, and a doer's act, do to the lent arrays.
+-- What a service at one port, a doer's act, and a partition's call do to the lent arrays.
 pub mod Served
 pub mod Did
+pub mod Called

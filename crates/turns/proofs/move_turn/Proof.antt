@@ -3,7 +3,7 @@ use mathlib.Core.Path.{sym, _∙_}
 use native.Mathlib.Omega.{arith}
 use borrow.Author.Needs.{needs}
 use Rattle.model.proofs.Accepted.{accepted}
-use Rattle.calls.proofs.Laws.{refused-does}
+use Rattle.lent.proofs.Acts.{refused-does}
 use Rattle.turns.specs.Turned.{clockOf}
 use Rattle.turns.proofs.Laws
 use Rattle.turns.proofs.move_turn.Statement.{statement}

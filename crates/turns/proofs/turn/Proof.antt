@@ -2,7 +2,7 @@
 use mathlib.Core.Path.{sym, _∙_, ap}
 use borrow.Author.Needs.{needs}
 use Rattle.events.specs.Shown.{askedOf}
-use Rattle.calls.proofs.Laws.{refused-does}
+use Rattle.lent.proofs.Acts.{refused-does}
 use Rattle.turns.specs.Turned.{clockOf}
 use Rattle.turns.proofs.Laws
 use Rattle.turns.proofs.turn.Statement.{statement}

@@ -1,2 +1,0 @@
--- A partition's call over the lent arrays.
-pub mod Called

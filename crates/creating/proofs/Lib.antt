@@ -1,0 +1,4 @@
+pub mod LookUp
+pub mod LikeRow
+pub mod Made
+pub mod Found

@@ -1,0 +1,2 @@
+-- The number that a create must have.
+pub mod Period

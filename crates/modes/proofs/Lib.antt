@@ -1,0 +1,3 @@
+pub mod Unmade
+pub mod Sweep
+pub mod SetMode

@@ -1,0 +1,2 @@
+-- The test of an own port.
+pub mod Own
