@@ -11,7 +11,7 @@ use Rattle.model.specs.Events.{eventSize}
 use Rattle.model.specs.Run.{listFault}
 use Rattle.kernel.specs.declared.Ran.{Ran}
 use Rattle.kernel.specs.Meets.{isSound, ListMeets, RunMeets, StepMeets}
-use Rattle.host.specs.Layout.{stateOf}
+use Rattle.buffers.specs.Layout.{stateOf}
 use Rattle.host.specs.Contracts.{isSized, bufferSound, bufferOr, HostLoad, HostRecord, HostTest, HostList, HostRun, HostStep, HostStart, HostLength}
 use Rattle.host.proofs.Calls as Calls
 

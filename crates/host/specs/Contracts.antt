@@ -15,7 +15,7 @@ use Rattle.states.specs.declared.State.{State}
 use Rattle.states.specs.Shown.{atLoad}
 use Rattle.kernel.specs.declared.Ran.{Ran}
 use Rattle.kernel.specs.Meets.{isSound, stateAfter, answersAfter}
-use Rattle.host.specs.Layout.{stateSize, stateOf, bytesOf}
+use Rattle.buffers.specs.Layout.{stateSize, stateOf, bytesOf}
 
 -- a buffer of the size of a state
 abbrev pub isSized : List ℕ → Bool
