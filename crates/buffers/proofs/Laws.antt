@@ -12,7 +12,7 @@ use Rattle.model.specs.Words.{word32, bytes32, zeros}
 use Rattle.stores.specs.Ring.{pasted}
 use Rattle.settling.proofs.Parts.{pasted-behind}
 use Rattle.states.specs.declared.State.{State}
-use Rattle.host.specs.Layout.{stateSize, numbersFrom, bytesOfAll, stateOf, bytesOf}
+use Rattle.buffers.specs.Layout.{stateSize, numbersFrom, bytesOfAll, stateOf, bytesOf}
 
 pub numbers-length : (b : List ℕ) (n at : ℕ) → length (numbersFrom b n at) ≡ n
 numbers-length b zero at = refl

@@ -1,13 +1,13 @@
--- `host::layout::state_of` meets its contract: each part is that of the buffer. Assumes nothing.
+-- `buffers::state_of` meets its contract: each part is that of the buffer. Assumes nothing.
 use Prim.Native.Nat.{ℕ}
 use mathlib.Core.Path.{_∙_, ap}
 use native.Mathlib.Omega.{arith}
 use lib.ListN.{length-replicate}
-use Rattle.host.specs.Layout.{numbersFrom}
-use Rattle.host.proofs.Laws.{part-long, laid-over, state-read}
+use Rattle.buffers.specs.Layout.{numbersFrom}
+use Rattle.buffers.proofs.Laws.{part-long, laid-over, state-read}
 use borrow.Author.Needs.{needs}
-use Rattle.host.proofs.layout.state_of.Statement.{statement}
-use Rattle.host.proofs.layout.state_of.Tie as tie
+use Rattle.buffers.proofs.state_of.Statement.{statement}
+use Rattle.buffers.proofs.state_of.Tie as tie
 
 slice-aggregate-lay-bytes : tie.Need-slice-aggregate-lay-bytes
 slice-aggregate-lay-bytes c = search needs

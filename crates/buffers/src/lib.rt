@@ -1,10 +1,10 @@
-// A state as bytes: each of its numbers low byte first, in the order of the struct.
+// A state into a host's byte buffer and out of it: each of its numbers low byte first, in the order of the struct.
 ghost use mathlib.Core.Path.{_≡_};
 ghost use Prim.Native.Nat.{_+_, _*_, _≤_};
 ghost use lib.ListN.{length};
 ghost use Rattle.model.specs.Words.{bytes32};
 ghost use Rattle.stores.specs.Ring.{pasted};
-ghost use Rattle.host.specs.Layout.{stateSize, numbersFrom, bytesOfAll, stateOf, bytesOf};
+ghost use Rattle.buffers.specs.Layout.{stateSize, numbersFrom, bytesOfAll, stateOf, bytesOf};
 use settling::lay_bytes;
 use states::State;
 use tables::word32;

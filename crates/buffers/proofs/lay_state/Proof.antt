@@ -1,14 +1,14 @@
--- `host::layout::lay_state` meets its contract: the five parts, one behind the other. Assumes nothing.
+-- `buffers::lay_state` meets its contract: the five parts, one behind the other. Assumes nothing.
 use mathlib.Core.Path.{_≡_, _∙_, ap}
 use native.Mathlib.Omega.{arith}
 use lib.ListN.{length}
 use Rattle.model.specs.Words.{bytes32}
 use Rattle.stores.specs.Ring.{pasted}
-use Rattle.host.specs.Layout.{bytesOfAll}
-use Rattle.host.proofs.Laws.{state-laid}
+use Rattle.buffers.specs.Layout.{bytesOfAll}
+use Rattle.buffers.proofs.Laws.{state-laid}
 use borrow.Author.Needs.{needs}
-use Rattle.host.proofs.layout.lay_state.Statement.{statement}
-use Rattle.host.proofs.layout.lay_state.Tie as tie
+use Rattle.buffers.proofs.lay_state.Statement.{statement}
+use Rattle.buffers.proofs.lay_state.Tie as tie
 
 whole-modes : (c : tie.Start) → length (c .args .state .modes) ≡ 16
 whole-modes c = search needs

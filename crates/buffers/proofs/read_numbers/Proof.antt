@@ -1,4 +1,4 @@
--- `host::layout::read_numbers` meets its contract: after i turns the first i are read. Assumes nothing.
+-- `buffers::read_numbers` meets its contract: after i turns the first i are read. Assumes nothing.
 use Prim.Native.Nat.{_-_, _≤_}
 use mathlib.Core.Path.{_≡_, refl, sym, _∙_}
 use native.Mathlib.Omega.{arith}
@@ -7,10 +7,10 @@ use lib.ListN.{length, length-set}
 use lib.Seq.{paste, paste-zero}
 use borrow.Author.Needs.{needs}
 use Rattle.stores.proofs.Lists.{paste-pasted, paste-turn}
-use Rattle.host.specs.Layout.{numbersFrom}
-use Rattle.host.proofs.Laws.{numbers-length, numbers-at, pasted-whole}
-use Rattle.host.proofs.layout.read_numbers.Statement.{statement}
-use Rattle.host.proofs.layout.read_numbers.Tie as tie
+use Rattle.buffers.specs.Layout.{numbersFrom}
+use Rattle.buffers.proofs.Laws.{numbers-length, numbers-at, pasted-whole}
+use Rattle.buffers.proofs.read_numbers.Statement.{statement}
+use Rattle.buffers.proofs.read_numbers.Tie as tie
 
 abbrev Inv-loop : tie.InvT-loop
 Inv-loop b at out₀ i₀ out i = (i ≤ length out₀) × (length out ≡ length out₀) × (out ≡ paste out₀ 0 (numbersFrom b (length out₀) at) i)

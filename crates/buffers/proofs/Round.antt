@@ -10,8 +10,8 @@ use lib.ListN.{length, getD, take, drop, length-append, length-drop, take-append
 use lib.Seq.{drop-cons, take-at, drop-at, take-all, take-add, drop-drop, getD-append-add}
 use Rattle.model.specs.Words.{word32, bytes32}
 use Rattle.states.specs.declared.State.{State}
-use Rattle.host.specs.Layout.{stateSize, numbersFrom, bytesOfAll, stateOf, bytesOf}
-use Rattle.host.proofs.Laws.{all-length}
+use Rattle.buffers.specs.Layout.{stateSize, numbersFrom, bytesOfAll, stateOf, bytesOf}
+use Rattle.buffers.proofs.Laws.{all-length}
 
 -- what the type State says of its numbers
 pub record Typed (st : State) : Type 0 where

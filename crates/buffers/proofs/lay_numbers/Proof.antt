@@ -1,4 +1,4 @@
--- `host::layout::lay_numbers` meets its contract: after i turns the first i are laid. Assumes nothing.
+-- `buffers::lay_numbers` meets its contract: after i turns the first i are laid. Assumes nothing.
 use Prim.Native.Nat.{_+_, _*_, _-_, _≤_}
 use mathlib.Core.Path.{_≡_, refl, sym, _∙_, ap, ap₂}
 use native.Mathlib.Omega.{arith}
@@ -8,10 +8,10 @@ use borrow.Author.Needs.{needs}
 use Rattle.model.specs.Words.{bytes32}
 use Rattle.stores.specs.Ring.{pasted}
 use Rattle.settling.proofs.Parts.{pasted-behind}
-use Rattle.host.specs.Layout.{bytesOfAll}
-use Rattle.host.proofs.Laws.{all-length, all-next, pasted-none}
-use Rattle.host.proofs.layout.lay_numbers.Statement.{statement}
-use Rattle.host.proofs.layout.lay_numbers.Tie as tie
+use Rattle.buffers.specs.Layout.{bytesOfAll}
+use Rattle.buffers.proofs.Laws.{all-length, all-next, pasted-none}
+use Rattle.buffers.proofs.lay_numbers.Statement.{statement}
+use Rattle.buffers.proofs.lay_numbers.Tie as tie
 
 abbrev Inv-loop : tie.InvT-loop
 Inv-loop out₀ at numbers i₀ out i = (i ≤ length numbers) × (length out ≡ length out₀) × (out ≡ pasted out₀ at (bytesOfAll (take i numbers)))

@@ -1,10 +1,10 @@
--- `host::layout::lay_number` meets its contract: four stores, one after the other. Assumes nothing.
+-- `buffers::lay_number` meets its contract: four stores, one after the other. Assumes nothing.
 use native.Mathlib.Omega.{arith}
 use lib.ListN.{length-set}
-use Rattle.host.proofs.Laws.{four-laid}
+use Rattle.buffers.proofs.Laws.{four-laid}
 use borrow.Author.Needs.{needs}
-use Rattle.host.proofs.layout.lay_number.Statement.{statement}
-use Rattle.host.proofs.layout.lay_number.Tie as tie
+use Rattle.buffers.proofs.lay_number.Statement.{statement}
+use Rattle.buffers.proofs.lay_number.Tie as tie
 
 cast-out : tie.Need-cast-out
 cast-out c = search needs

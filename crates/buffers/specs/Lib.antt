@@ -1,0 +1,2 @@
+-- The layout of a state in a buffer.
+pub mod Layout
