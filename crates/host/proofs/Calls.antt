@@ -1,7 +1,7 @@
 -- The exported calls by their cases: what the kernel gave, and the size of the buffer.
 -- Assumes nothing.
 use Prim.Native.Nat.{ℕ}
-use mathlib.Core.Path.{_≡_, _∙_, ap₂}
+use mathlib.Core.Path.{_≡_, _∙_, ap₂, subst}
 use mathlib.Core.Bool.{Bool, true, false, not}
 use mathlib.Core.List.{List}
 use native.Mathlib.Omega.{arith}
@@ -61,10 +61,13 @@ module _ (t b : List ℕ) where
         let no = ne-eqb (listFault whole events a false) 0 fault-not-0 in
         record { refusal = e ∙ (rw (unsound s)); state = rw (unsound s, no); answered = rw (unsound s, no) }
 
-    -- with a buffer of the right size it is the kernel's call
-    pub sized : isSized b ≡ true → {ran : Ran} {r : ℕ} {b' a' : List ℕ} → ListMeets (listFault whole events a (isSound t (stateOf b))) t (stateOf b) events a ran a' → HandedBack ran events b r b'
+    -- with a buffer of the right size it is the kernel's call, of the state that was read from it
+    pub sized : isSized b ≡ true → {st : State} → st ≡ stateOf b → {ran : Ran} {r : ℕ} {b' a' : List ℕ} → ListMeets (listFault whole events a (isSound t st)) t st events a ran a' → HandedBack ran events b r b'
         → HostList (listFault whole events a (bufferSound t b)) t b events a r b' a'
-    sized s m h =
+    sized s {st} e {ran} {a' = a'} given h =
+        let m : ListMeets (listFault whole events a (isSound t (stateOf b))) t (stateOf b) events a ran a' =
+        subst (λ (x : State). ListMeets (listFault whole events a (isSound t x)) t x events a ran a') e given
+        in
         rw (sound-as s)
         (record {
           refusal = h .refusal ∙ m .refusal;

@@ -53,7 +53,7 @@ module _ (t b : List ℕ) (sized : isSized b ≡ true) where
       → {r : ℕ} {b' a″ : List ℕ} → HostList (listFault whole events a (bufferSound t b)) t b events a r b' a″ → Same r b' a″ (ran .refusal) (bufferOr (ran .refusal) events b (ran .state)) a'
   as-kernel whole events a {ran} {a'} m h =
       list-unique _ t b events a _ _ _ _ _ _ h
-      (Calls.sized t b whole events a sized m (record { refusal = refl; state = refl }))
+      (Calls.sized t b whole events a sized refl m (record { refusal = refl; state = refl }))
 
   pub run-is-kernel : (events a : List ℕ) {ran : Ran} {a' : List ℕ} → RunMeets t (stateOf b) events a ran a'
       → {r : ℕ} {b' a″ : List ℕ} → HostRun t b events a r b' a″ → Same r b' a″ (ran .refusal) (bufferOr (ran .refusal) events b (ran .state)) a'

@@ -1,13 +1,8 @@
 -- `host::mueanphrai_run` meets its contract, by the size of the buffer: the kernel's call, handed back. Assumes nothing.
-use mathlib.Core.Path.{subst}
 use Prim.Native.Nat.{_%_}
 use lib.Dec.{eqb}
 use lib.ListN.{length}
 use borrow.Author.Tests.{eq-eqb, ne-eqb}
-use Rattle.model.specs.Run.{listFault}
-use Rattle.states.specs.declared.State.{State}
-use Rattle.states.specs.Shown.{isSound}
-use Rattle.kernel.specs.Meets.{ListMeets}
 use Rattle.host.proofs.Calls.{unsized, sized}
 use borrow.Author.Needs.{needs}
 use Rattle.host.proofs.mueanphrai_run.Statement.{statement}
@@ -44,11 +39,8 @@ returns-2 : tie.Need-returns-2
 returns-2 c =
     let s = c .before .before .before .before .before .before .before .before .before .before .before .before .before .before .before .args in
     let from = s .state .now in
-    let t = s .tables .now in
     let es = s .events .now in
-    let a = s .answers .now in
-    let whole = eqb (length es % 80) 0 in
-    sized t from whole es a (eq-eqb (length from) 36120 (c .before .before .before .before .before .before .before .before .before .before .if1 .left)) (subst (λ (st : State). ListMeets (listFault whole es a (isSound t st)) t st es a (c .before .before .before .before .before .before .run .result) (c .before .before .before .before .before .before .run .last .1 .1 .1 .0)) (c .before .before .before .before .before .before .before .before .state-of .ensures) (c .before .before .before .before .before .before .run .ensures)) (c .before .before .hand-back .ensures)
+    sized (s .tables .now) from (eqb (length es % 80) 0) es (s .answers .now) (eq-eqb (length from) 36120 (c .before .before .before .before .before .before .before .before .before .before .if1 .left)) (c .before .before .before .before .before .before .before .before .state-of .ensures) (c .before .before .before .before .before .before .run .ensures) (c .before .before .hand-back .ensures)
 
 pub mueanphrai-run-spec : {M : Type 1} → statement M
 mueanphrai-run-spec =
