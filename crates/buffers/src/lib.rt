@@ -5,7 +5,7 @@ ghost use lib.ListN.{length};
 ghost use Rattle.model.specs.Words.{bytes32};
 ghost use Rattle.stores.specs.Ring.{pasted};
 ghost use Rattle.buffers.specs.Layout.{stateSize, numbersFrom, bytesOfAll, stateOf, bytesOf};
-use settling::lay_bytes;
+use ports::lay_bytes;
 use states::State;
 use tables::word32;
 

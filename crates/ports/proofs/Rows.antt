@@ -1,15 +1,17 @@
 -- Laws of the rows and blocks of the lent arrays: what stands in one after a number or a block is stored.
 -- Assumes nothing.
 use Prim.Native.Nat.{ℕ, zero, suc, _+_, _-_, _*_, _≤_, _<_}
-use mathlib.Core.Path.{_≡_, refl, sym, _∙_, ap, ap₂}
+use mathlib.Core.Path.{_≡_, refl, sym, _∙_, ap, ap₂, subst}
 use mathlib.Core.List.{List, [], _∷_, _++_, append-assoc}
 use mathlib.Core.Logic.{_⊎_, inl, inr, ⊎-elim}
 use native.Mathlib.Nat.{add-zero}
 use native.Mathlib.Omega.{arith}
 use lib.ListN.{length, getD, take, drop, set, length-take, length-drop, List·getD-append}
 use native.Mathlib.Numerals.{add-one}
-use lib.Seq.{getD-set-same, getD-set-other, ext-getD, getD-take, getD-drop, take-suc, take-suc-set, paste, length-paste, length-paste-head, drop-paste, drop-at, take-at, take-all, length-take-le}
+use lib.Seq.{getD-set-same, getD-set-other, ext-getD, getD-take, getD-drop, take-suc, take-suc-set, paste, paste-zero, length-paste, length-paste-head, drop-paste, drop-at, take-at, take-all, length-take-le}
 use Rattle.model.proofs.Tests.{three}
+use Rattle.stores.specs.Ring.{pasted}
+use Rattle.stores.proofs.Lists.{paste-pasted, paste-turn}
 use Rattle.ports.specs.Held.{numbersFrom, rowOf, blockOf, RowPut, BlockPut}
 
 pub numbers-at : (numbers : List ℕ) (n at j : ℕ) → j < n → getD (numbersFrom numbers n at) j 0 ≡ getD numbers (at + j) 0
@@ -73,10 +75,9 @@ paste-other d s at n i l m (inr h) =
     ∙ getD-drop (at + n) d (i - (at + n)) 0
     ∙ ap (λ x. getD d x 0) way
 
--- the law for put_block
-pub block-put : (bytes block : List ℕ) (k : ℕ) → length bytes ≡ 32768 → k < 64 → length block ≡ 512 → BlockPut bytes (paste bytes (512 * k) block 512) k block
+block-pasted : (bytes block : List ℕ) (k : ℕ) → length bytes ≡ 32768 → k < 64 → length block ≡ 512 → BlockPut bytes (paste bytes (512 * k) block 512) k block
 unfolding blockOf
-block-put bytes block k l h m =
+block-pasted bytes block k l h m =
     record {
       here =
           rw (append-assoc (take (512 * k) bytes) (take 512 block) (drop (512 * k + 512) bytes), drop-at (take (512 * k) bytes) (take 512 block ++ drop (512 * k + 512) bytes) (512 * k) (length-take-le (512 * k) bytes (omega arith)))
@@ -84,25 +85,30 @@ block-put bytes block k l h m =
       elsewhere = λ j other. ext-getD 0 _ _ (same j) (λ i inside. at j i other (omega (arith, inside, same j, few j)));
     }
   where
-    pasted : List ℕ
-    pasted = paste bytes (512 * k) block 512
+    copied : List ℕ
+    copied = paste bytes (512 * k) block 512
 
-    long : length pasted ≡ length bytes
+    long : length copied ≡ length bytes
     long = length-paste bytes (512 * k) block 512 (omega arith) (omega arith)
 
-    same : (j : ℕ) → length (take 512 (drop (512 * j) pasted)) ≡ length (take 512 (drop (512 * j) bytes))
+    same : (j : ℕ) → length (take 512 (drop (512 * j) copied)) ≡ length (take 512 (drop (512 * j) bytes))
     same j = simp (length-take, length-drop, long)
 
-    few : (j : ℕ) → length (take 512 (drop (512 * j) pasted)) ≤ 512
+    few : (j : ℕ) → length (take 512 (drop (512 * j) copied)) ≤ 512
     few j = simp length-take (omega arith)
 
-    at : (j i : ℕ) → (j ≡ k → ⊥) → i < 512 → getD (take 512 (drop (512 * j) pasted)) i 0 ≡ getD (take 512 (drop (512 * j) bytes)) i 0
-    at j i other inside = rw (getD-take 512 (drop (512 * j) pasted) i 0 inside, getD-take 512 (drop (512 * j) bytes) i 0 inside, getD-drop (512 * j) pasted i 0, getD-drop (512 * j) bytes i 0) (paste-other bytes block (512 * k) 512 (512 * j + i) (omega arith) (omega arith) (apart (three j k)))
+    at : (j i : ℕ) → (j ≡ k → ⊥) → i < 512 → getD (take 512 (drop (512 * j) copied)) i 0 ≡ getD (take 512 (drop (512 * j) bytes)) i 0
+    at j i other inside = rw (getD-take 512 (drop (512 * j) copied) i 0 inside, getD-take 512 (drop (512 * j) bytes) i 0 inside, getD-drop (512 * j) copied i 0, getD-drop (512 * j) bytes i 0) (paste-other bytes block (512 * k) 512 (512 * j + i) (omega arith) (omega arith) (apart (three j k)))
       where
         apart : (j < k) ⊎ ((j ≡ k) ⊎ (k < j)) → (512 * j + i < 512 * k) ⊎ (512 * k + 512 ≤ 512 * j + i)
         apart (inl q) = inl (omega arith)
         apart (inr (inl q)) = absurd (other q)
         apart (inr (inr q)) = inr (omega arith)
+
+-- the law for a store's bytes laid into their block
+pub block-put : {bytes bytes' block : List ℕ} {k : ℕ} → length bytes ≡ 32768 → k < 64 → length block ≡ 512 → bytes' ≡ pasted bytes (512 * k) block → BlockPut bytes bytes' k block
+block-put {bytes} {bytes'} {block} {k} l h m e =
+    subst (λ b. BlockPut bytes b k block) (ap (paste bytes (512 * k) block) (sym m) ∙ paste-pasted bytes (512 * k) block ∙ sym e) (block-pasted bytes block k l h m)
 
 -- rows put one after another, and none
 pub row-kept : (numbers : List ℕ) (k : ℕ) → RowPut numbers numbers k (rowOf numbers k)
@@ -117,3 +123,37 @@ row-is p e = record { here = p .here ∙ e; elsewhere = p .elsewhere }
 pub row-length : (numbers : List ℕ) (k : ℕ) → length (rowOf numbers k) ≡ 13
 unfolding rowOf
 row-length numbers k = refl
+
+-- the law for a store's lengths laid into their row: one more of them, the first i, then all
+one-length : (numbers lengths : List ℕ) (k i : ℕ) → length numbers ≡ 832 → k < 64 → length lengths ≡ 8 → i < 8
+    → RowPut numbers (paste numbers (13 * k + 5) lengths i) k (paste (rowOf numbers k) 5 lengths i)
+    → RowPut numbers (paste numbers (13 * k + 5) lengths (suc i)) k (paste (rowOf numbers k) 5 lengths (suc i))
+one-length numbers lengths k i l h m few before =
+    row-again before
+    (subst (λ n. RowPut now n k (paste (rowOf numbers k) 5 lengths (suc i))) stored
+    (row-is (row-put now k (5 + i) (getD lengths i 0) long h (omega arith)) in-row))
+  where
+    now : List ℕ
+    now = paste numbers (13 * k + 5) lengths i
+
+    long : length now ≡ 832
+    long = length-paste numbers (13 * k + 5) lengths i (omega arith) (omega arith) ∙ l
+
+    stored : set now (13 * k + (5 + i)) (getD lengths i 0) ≡ paste numbers (13 * k + 5) lengths (suc i)
+    stored = paste-turn numbers (13 * k + 5) lengths i refl (omega arith) refl (omega arith) (omega arith) ∙ ap (paste numbers (13 * k + 5) lengths) (add-one i)
+
+    in-row : set (rowOf now k) (5 + i) (getD lengths i 0) ≡ paste (rowOf numbers k) 5 lengths (suc i)
+    in-row = paste-turn (rowOf numbers k) 5 lengths i (before .here) refl refl (omega (arith, row-length numbers k)) (omega arith) ∙ ap (paste (rowOf numbers k) 5 lengths) (add-one i)
+
+lengths-pasted : (numbers lengths : List ℕ) (k : ℕ) → length numbers ≡ 832 → k < 64 → length lengths ≡ 8 → (i : ℕ) → i ≤ 8
+    → RowPut numbers (paste numbers (13 * k + 5) lengths i) k (paste (rowOf numbers k) 5 lengths i)
+lengths-pasted numbers lengths k l h m zero few =
+    subst (λ n. RowPut numbers n k (paste (rowOf numbers k) 5 lengths 0)) (paste-zero numbers (13 * k + 5) lengths)
+    (row-is (row-kept numbers k) (paste-zero (rowOf numbers k) 5 lengths))
+lengths-pasted numbers lengths k l h m (suc i) few = one-length numbers lengths k i l h m (omega arith) (lengths-pasted numbers lengths k l h m i (omega arith))
+
+pub lengths-put : {numbers numbers' : List ℕ} {k : ℕ} (lengths : List ℕ) → length numbers ≡ 832 → k < 64 → length lengths ≡ 8 → numbers' ≡ pasted numbers (13 * k + 5) lengths
+    → RowPut numbers numbers' k (paste (rowOf numbers k) 5 lengths 8)
+lengths-put {numbers} {numbers'} {k} lengths l h m e =
+    subst (λ n. RowPut numbers n k (paste (rowOf numbers k) 5 lengths 8)) (ap (paste numbers (13 * k + 5) lengths) (sym m) ∙ paste-pasted numbers (13 * k + 5) lengths ∙ sym e)
+    (lengths-pasted numbers lengths k l h m 8 (omega arith))

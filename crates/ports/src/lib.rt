@@ -1,11 +1,10 @@
 // The ports of a state in two lent arrays, and the store of one of them taken out by value and put back.
 ghost use mathlib.Core.Path.{_≡_};
-ghost use Prim.Native.Nat.{_+_, _*_, _<_};
-ghost use lib.Seq.{paste};
+ghost use Prim.Native.Nat.{_+_, _*_, _≤_, _<_};
 ghost use lib.ListN.{length, getD, set, drop};
-ghost use Rattle.ports.specs.Held.{rowOf, blockOf, storeAt, portAt, RowPut, BlockPut, PortPut};
+ghost use Rattle.ports.specs.Held.{rowOf, blockOf, storeAt, portAt, RowPut, PortPut};
 ghost use Rattle.model.specs.State.{withQueue};
-ghost use Rattle.stores.specs.Ring.{queueOf};
+ghost use Rattle.stores.specs.Ring.{pasted, queueOf};
 use stores::Store;
 
 pub const CREATED: usize = 0;
@@ -48,18 +47,6 @@ fn take_block(bytes: &[u8], k: usize) -> [u8; 512]
     block
 }
 
-fn put_block(bytes: &mut [u8], k: usize, block: [u8; 512])
-    requires { ⌜ (length (now bytes) ≡ 32768) × (k < 64) ⌝ }
-    ensures { λ _. ⌜ BlockPut (now (bytes .entry)) (now (bytes .exit)) k block ⌝ }
-{
-    let at = 512 * k;
-    let mut i: usize = 0;
-    while i < 512 {
-        bytes[at + i] = block[i];
-        i = i + 1;
-    }
-}
-
 // The lengths in the eight slots of port k.
 fn take_lengths(numbers: &[u32], k: usize) -> [u32; 8]
     requires { ⌜ (length (now numbers) ≡ 832) × (k < 64) ⌝ }
@@ -74,13 +61,26 @@ fn take_lengths(numbers: &[u32], k: usize) -> [u32; 8]
     lengths
 }
 
-fn put_lengths(numbers: &mut [u32], k: usize, lengths: [u32; 8])
-    requires { ⌜ (length (now numbers) ≡ 832) × (k < 64) ⌝ }
-    ensures { λ _. ⌜ RowPut (now (numbers .entry)) (now (numbers .exit)) k (paste (rowOf (now (numbers .entry)) k) 5 lengths 8) ⌝ }
+// Numbers copied over those that stand from `at` on.
+pub fn lay_numbers(to: &mut [u32], at: usize, part: &[u32])
+    requires { ⌜ at + length (now part) ≤ length (now to) ⌝ }
+    ensures { λ _. ⌜ now (to .exit) ≡ pasted (now (to .entry)) at (now (part .entry)) ⌝ }
 {
     let mut i: usize = 0;
-    while i < 8 {
-        set_number(numbers, k, 5 + i, lengths[i]);
+    while i < part.len() {
+        to[at + i] = part[i];
+        i = i + 1;
+    }
+}
+
+// The same of bytes; a host lays a buffer with it too.
+pub fn lay_bytes(to: &mut [u8], at: usize, part: &[u8])
+    requires { ⌜ at + length (now part) ≤ length (now to) ⌝ }
+    ensures { λ _. ⌜ now (to .exit) ≡ pasted (now (to .entry)) at (now (part .entry)) ⌝ }
+{
+    let mut i: usize = 0;
+    while i < part.len() {
+        to[at + i] = part[i];
         i = i + 1;
     }
 }
@@ -100,15 +100,13 @@ pub fn take_store(numbers: &[u32], bytes: &[u8], k: usize) -> Store
     }
 }
 
-// The store put back: port k holds its messages, and all else stays.
+// The store put back: port k holds its messages, and all else stays. Its arrays are lent: by value they would be copied once more.
 pub fn put_store(numbers: &mut [u32], bytes: &mut [u8], k: usize, st: Store)
     requires { ⌜ (length (now numbers) ≡ 832) × (length (now bytes) ≡ 32768) × (k < 64) ⌝ }
     ensures { λ _. ⌜ PortPut (now (numbers .entry)) (now (bytes .entry)) (now (numbers .exit)) (now (bytes .exit)) k (withQueue (portAt (now (numbers .entry)) (now (bytes .entry)) k) (queueOf st)) ⌝ }
 {
-    let lengths = st.lengths;
-    let block = st.bytes;
     set_number(numbers, k, OLDEST, st.oldest);
     set_number(numbers, k, COUNT, st.count);
-    put_lengths(numbers, k, lengths);
-    put_block(bytes, k, block);
+    lay_numbers(numbers, 13 * k + 5, &st.lengths);
+    lay_bytes(bytes, 512 * k, &st.bytes);
 }

@@ -1,34 +1,9 @@
 // A state put together: each port's numbers and messages laid into the arrays of a State, in settled form.
 ghost use mathlib.Core.Path.{_≡_};
-ghost use Prim.Native.Nat.{_+_, _≤_};
+ghost use Prim.Native.Nat.{_+_};
 ghost use lib.ListN.{length};
-ghost use Rattle.stores.specs.Ring.{pasted};
 ghost use Rattle.settling.specs.Settled.{Stored, PortLaid, PutTogether};
 use ports::number;
-
-// Numbers copied over those that stand from `at` on.
-fn lay_numbers(to: &mut [u32], at: usize, part: &[u32])
-    requires { ⌜ at + length (now part) ≤ length (now to) ⌝ }
-    ensures { λ _. ⌜ now (to .exit) ≡ pasted (now (to .entry)) at (now (part .entry)) ⌝ }
-{
-    let mut i: usize = 0;
-    while i < part.len() {
-        to[at + i] = part[i];
-        i = i + 1;
-    }
-}
-
-// The same of bytes; a host lays a buffer with it too.
-pub fn lay_bytes(to: &mut [u8], at: usize, part: &[u8])
-    requires { ⌜ at + length (now part) ≤ length (now to) ⌝ }
-    ensures { λ _. ⌜ now (to .exit) ≡ pasted (now (to .entry)) at (now (part .entry)) ⌝ }
-{
-    let mut i: usize = 0;
-    while i < part.len() {
-        to[at + i] = part[i];
-        i = i + 1;
-    }
-}
 
 // Port k, in settled form, in the same row and block of the other arrays.
 fn put_port(numbers: &[u32], bytes: &[u8], k: usize, out_numbers: &mut [u32], out_bytes: &mut [u8])
@@ -45,9 +20,9 @@ fn put_port(numbers: &[u32], bytes: &[u8], k: usize, out_numbers: &mut [u32], ou
         st.oldest,
         st.count,
     ];
-    lay_numbers(out_numbers, 13 * k, &first);
-    lay_numbers(out_numbers, 13 * k + 5, &st.lengths);
-    lay_bytes(out_bytes, 512 * k, &st.bytes);
+    ports::lay_numbers(out_numbers, 13 * k, &first);
+    ports::lay_numbers(out_numbers, 13 * k + 5, &st.lengths);
+    ports::lay_bytes(out_bytes, 512 * k, &st.bytes);
 }
 
 // The first n ports in settled form: the oldest message in slot 0, zeros wherever no message stands. The other rows stay, since those

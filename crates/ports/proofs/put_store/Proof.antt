@@ -1,12 +1,18 @@
 -- `ports::put_store` meets its contract: row and block are put, and that is the port put. Assumes nothing.
-use mathlib.Core.Path.{ap}
-use lib.ListN.{set}
+use mathlib.Core.Path.{_≡_, _∙_, ap}
+use lib.ListN.{length, set}
 use lib.Seq.{paste}
-use Rattle.ports.proofs.Rows.{row-again, row-is}
+use Rattle.ports.proofs.Rows.{row-again, row-is, lengths-put, block-put}
 use Rattle.ports.proofs.Ports.{port-put, put-is, store-row}
 use borrow.Author.Needs.{needs}
 use Rattle.ports.proofs.put_store.Statement.{statement}
 use Rattle.ports.proofs.put_store.Tie as tie
+
+eight : (c : tie.Start) → length (c .args .t4 .lengths) ≡ 8
+eight c = search needs
+
+whole : (c : tie.Start) → length (c .args .t4 .bytes) ≡ 512
+whole c = search needs
 
 set-number-requires : tie.Need-set-number-requires
 set-number-requires c κs = search needs
@@ -14,11 +20,20 @@ set-number-requires c κs = search needs
 set-number-requires-2 : tie.Need-set-number-requires-2
 set-number-requires-2 c κs = search needs
 
-put-lengths-requires : tie.Need-put-lengths-requires
-put-lengths-requires c κs = search needs
+mul-lay-numbers : tie.Need-mul-lay-numbers
+mul-lay-numbers c = search needs
 
-put-block-requires : tie.Need-put-block-requires
-put-block-requires c κs = search needs
+add-lay-numbers : tie.Need-add-lay-numbers
+add-lay-numbers c = search needs
+
+lay-numbers-requires : tie.Need-lay-numbers-requires
+lay-numbers-requires c κs = search needs
+
+mul-lay-bytes : tie.Need-mul-lay-bytes
+mul-lay-bytes c = search needs
+
+lay-bytes-requires : tie.Need-lay-bytes-requires
+lay-bytes-requires c κs = search needs
 
 same-length : tie.Need-same-length
 same-length c = search needs
@@ -28,14 +43,15 @@ same-length-2 c = search needs
 
 returns : tie.Need-returns
 returns c =
-    let a = c .before .before .before .before .before .before .before .before .before .before .before .before .before .before .before .before .before .before .before .before .args in
-    let oldest = c .before .before .before .before .before .before .before .before .before .before .before .before .before .before .set-number .ensures in
-    let count = c .before .before .before .before .before .before .before .before .before .before .set-number2 .ensures in
-    let lengths = c .before .before .before .before .before .before .put-lengths .ensures in
-    let block = c .before .before .put-block .ensures in
-    let turned = row-again oldest (row-is count (ap (λ r. set r 4 (a .st .count)) (oldest .here))) in
-    let row = row-again turned (row-is lengths (ap (λ r. paste r 5 (a .st .lengths) 8) (turned .here))) in
-    put-is (port-put row block) (store-row (a .numbers .now) (a .bytes .now) (a .k) (a .st) (search needs))
+    let s = c .before .before .before .before .before .before .before .before .before .before .before .before .before .before .before .before .before .before .before .before .before .before .before .before in
+    let a = s .args in
+    let oldest = c .before .before .before .before .before .before .before .before .before .before .before .before .before .before .before .before .before .before .before .before .set-number in
+    let count = c .before .before .before .before .before .before .before .before .before .before .before .before .before .before .before .before .set-number2 in
+    let lengths = lengths-put (a .t4 .lengths) (count .kept .0 ∙ oldest .kept .0 ∙ s .pre .0) (s .pre .2) (eight s) (c .before .before .before .before .before .before .before .before .before .lay-numbers .ensures) in
+    let block = block-put (s .pre .1) (s .pre .2) (whole s) (c .before .before .lay-bytes .ensures) in
+    let turned = row-again (oldest .ensures) (row-is (count .ensures) (ap (λ r. set r 4 (a .t4 .count)) (oldest .ensures .here))) in
+    let row = row-again turned (row-is lengths (ap (λ r. paste r 5 (a .t4 .lengths) 8) (turned .here))) in
+    put-is (port-put row block) (store-row (a .numbers .now) (a .bytes .now) (a .k) (a .t4) (eight s))
 
 pub put-store-spec : {M : Type 1} → statement M
 put-store-spec =
@@ -43,8 +59,11 @@ put-store-spec =
     (tie.spec
     set-number-requires
     set-number-requires-2
-    put-lengths-requires
-    put-block-requires
+    mul-lay-numbers
+    add-lay-numbers
+    lay-numbers-requires
+    mul-lay-bytes
+    lay-bytes-requires
     same-length
     same-length-2
     returns)

@@ -1,4 +1,4 @@
--- `settling::lay_bytes` meets its contract: after i turns the first i are copied. Assumes nothing.
+-- `ports::lay_bytes` meets its contract: after i turns the first i are copied. Assumes nothing.
 use Prim.Native.Nat.{_-_, _≤_}
 use mathlib.Core.Path.{_≡_, refl, _∙_}
 use native.Mathlib.Omega.{arith}
@@ -6,8 +6,8 @@ use lib.ListN.{length, length-set}
 use lib.Seq.{paste, paste-zero}
 use borrow.Author.Needs.{needs}
 use Rattle.stores.proofs.Lists.{paste-pasted, paste-turn}
-use Rattle.settling.proofs.lay_bytes.Statement.{statement}
-use Rattle.settling.proofs.lay_bytes.Tie as tie
+use Rattle.ports.proofs.lay_bytes.Statement.{statement}
+use Rattle.ports.proofs.lay_bytes.Tie as tie
 
 abbrev Inv-loop : tie.InvT-loop
 Inv-loop to₀ at part i₀ to i = (i ≤ length part) × (length to ≡ length to₀) × (to ≡ paste to₀ at part i)
