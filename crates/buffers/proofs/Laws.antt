@@ -6,9 +6,9 @@ use mathlib.Core.List.{List, [], _∷_, _++_, append-assoc, append-nil}
 use native.Mathlib.Nat.{zero-add, add-zero}
 use native.Mathlib.Numerals.{add-one}
 use native.Mathlib.Omega.{arith}
-use lib.ListN.{length, getD, take, drop, set, length-append, length-drop, length-replicate, take-append-drop}
-use lib.Seq.{take-suc, sets-eq, drop-length, length-take-le}
-use Rattle.model.specs.Words.{word32, bytes32, zeros}
+use lib.ListN.{length, getD, take, drop, set, length-append, length-drop, take-append-drop}
+use lib.Seq.{take-suc, sets-eq, drop-length, length-take-le, getD-take, getD-drop}
+use Rattle.model.specs.Words.{word32, bytes32}
 use Rattle.stores.specs.Ring.{pasted}
 use Rattle.settling.proofs.Parts.{pasted-behind}
 use Rattle.states.specs.declared.State.{State}
@@ -76,12 +76,12 @@ state-laid o st whole modes numbers bytes =
     ∙ pasted-whole o (wtmn ++ st .bytes) long
     ∙ ap (λ r. w ++ (bytes32 (st .time) ++ r)) (append-assoc (st .modes) (bytesOfAll (st .numbers)) (st .bytes))
 
--- a stretch of the buffer, and one laid over zeros
+-- a stretch of the buffer
 pub part-long : (b : List ℕ) (at n : ℕ) → at + n ≤ length b → length (take n (drop at b)) ≡ n
 part-long b at n h = length-take-le n (drop at b) (omega (arith, length-drop at b))
 
-pub laid-over : (n : ℕ) (part : List ℕ) → length part ≡ n → pasted (zeros n) 0 part ≡ part
-laid-over n part h = pasted-whole (zeros n) part (h ∙ sym (length-replicate n 0))
+pub part-at : (b : List ℕ) (at n i : ℕ) → i < n → getD (take n (drop at b)) i 0 ≡ getD b (at + i) 0
+part-at b at n i h = getD-take n (drop at b) i 0 h ∙ getD-drop at b i 0
 
 -- the five parts of a buffer, read, are its state
 pub state-read :
@@ -89,3 +89,7 @@ pub state-read :
     → record { window = window; time = time; modes = modes; numbers = numbers; bytes = bytes } ≡ stateOf b
 unfolding stateOf
 state-read b w t m n c = λ i. record { window = w i; time = t i; modes = m i; numbers = n i; bytes = c i }
+
+-- what reaches to the end of a buffer is within it
+pub whole-within : (b : List ℕ) → length b ≡ stateSize → stateSize ≤ length b
+whole-within b h = omega (arith, h)

@@ -1,7 +1,7 @@
 // A state into a host's byte buffer and out of it: each of its numbers low byte first, in the order of the struct.
 ghost use mathlib.Core.Path.{_≡_};
 ghost use Prim.Native.Nat.{_+_, _*_, _≤_};
-ghost use lib.ListN.{length};
+ghost use lib.ListN.{length, take, drop};
 ghost use Rattle.model.specs.Words.{bytes32};
 ghost use Rattle.stores.specs.Ring.{pasted};
 ghost use Rattle.buffers.specs.Layout.{stateSize, numbersFrom, bytesOfAll, stateOf, bytesOf};
@@ -21,6 +21,18 @@ fn read_numbers(b: &[u8], at: usize, out: &mut [u32])
     }
 }
 
+// The same of bytes.
+fn read_bytes(b: &[u8], at: usize, out: &mut [u8])
+    requires { ⌜ at + length (now out) ≤ length (now b) ⌝ }
+    ensures { λ _. ⌜ now (out .exit) ≡ take (length (now (out .entry))) (drop at (now (b .entry))) ⌝ }
+{
+    let mut i: usize = 0;
+    while i < out.len() {
+        out[i] = b[at + i];
+        i = i + 1;
+    }
+}
+
 pub fn state_of(b: &[u8]) -> State
     requires { ⌜ length (now b) ≡ stateSize ⌝ }
     ensures { λ r. ⌜ r ≡ stateOf (now (b .entry)) ⌝ }
@@ -28,9 +40,9 @@ pub fn state_of(b: &[u8]) -> State
     let mut modes = [0; 16];
     let mut numbers = [0; 832];
     let mut bytes = [0; 32768];
-    lay_bytes(&mut modes, 0, &b[8..24]);
+    read_bytes(b, 8, &mut modes);
     read_numbers(b, 24, &mut numbers);
-    lay_bytes(&mut bytes, 0, &b[3352..36120]);
+    read_bytes(b, 3352, &mut bytes);
     State {
         window: word32(b, 0),
         time: word32(b, 4),
