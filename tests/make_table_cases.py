@@ -1,5 +1,5 @@
 #!/usr/bin/env python3
-"""Writes the run cases of the loader: crates/tables_cases/data/cases.bin, and crates/tables_cases/stdout.
+"""Writes the run cases of the loader: crates/loader_cases/data/cases.bin, and crates/loader_cases/stdout.
 
 A case is a label and a table. The expected verdict is that of the judge below, which is written from document 01
 alone and shares nothing with the code or the model. cases.bin has for each case: the label's length (1 byte), the
@@ -349,7 +349,7 @@ def samples():
 def main():
     for group in (lengths, counts, kinds, window_fields, port_fields, names, channel_fields, channel_ends, order, samples):
         group()
-    room = pathlib.Path("crates/tables_cases")
+    room = pathlib.Path("crates/loader_cases")
     data, out = bytearray(), []
     for label, table in CASES:
         text = label.encode()

@@ -3,8 +3,8 @@
 //!
 //! - `dice`: the numbers
 //! - `plan`, `tables`, `edges`: sound tables
-//! - `records`, `faults`, `ends`, `damage`: damaged tables
-//! - `events`, `lists`: event records and lists of them
+//! - `records`, `faults`, `channel_ends`, `damage`: damaged tables
+//! - `events`, `tested_run`: event records and lists of them
 //! - `states`: states in range and out of it
 
 pub mod damage;

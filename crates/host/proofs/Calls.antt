@@ -17,7 +17,7 @@ use Rattle.states.specs.Shown.{atLoad, allZero}
 use Rattle.kernel.specs.declared.Ran.{Ran}
 use Rattle.states.specs.Shown.{isSound}
 use Rattle.kernel.specs.Meets.{answersAfter, ListMeets}
-use Rattle.buffers.specs.Layout.{stateOf, bytesOf}
+use Rattle.state_buffer.specs.Layout.{stateOf, bytesOf}
 use Rattle.host.specs.Contracts.{isSized, loadCode, bufferSound, bufferOr, HostLoad, HostList, HandedBack}
 
 module _ (t b : List ℕ) where

@@ -12,7 +12,7 @@ use Rattle.model.specs.Run.{listFault}
 use Rattle.kernel.specs.declared.Ran.{Ran}
 use Rattle.states.specs.Shown.{isSound}
 use Rattle.kernel.specs.Meets.{ListMeets, RunMeets, StepMeets}
-use Rattle.buffers.specs.Layout.{stateOf}
+use Rattle.state_buffer.specs.Layout.{stateOf}
 use Rattle.host.specs.Contracts.{isSized, bufferSound, bufferOr, HostLoad, HostRecord, HostTest, HostList, HostRun, HostStep, HostStart, HostLength}
 use Rattle.host.proofs.Calls as Calls
 

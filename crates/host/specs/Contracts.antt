@@ -16,7 +16,7 @@ use Rattle.states.specs.Shown.{atLoad}
 use Rattle.kernel.specs.declared.Ran.{Ran}
 use Rattle.states.specs.Shown.{isSound}
 use Rattle.kernel.specs.Meets.{stateAfter, answersAfter}
-use Rattle.buffers.specs.Layout.{stateSize, stateOf, bytesOf}
+use Rattle.state_buffer.specs.Layout.{stateSize, stateOf, bytesOf}
 
 -- a buffer of the size of a state
 abbrev pub isSized : List ℕ → Bool

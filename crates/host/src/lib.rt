@@ -1,11 +1,11 @@
 // What a program in C or Rust links: the kernel's public calls over numbers and byte slices. A state crosses as a buffer of one size whose
-// layout the crate `buffers` fixes; a buffer of another size is refused 29. include/mueanphrai.h tells the callers the same.
+// layout the crate `state_buffer` fixes; a buffer of another size is refused 29. include/mueanphrai.h tells the callers the same.
 // Null pointers and buffers that overlap cannot be tested here: the header says what a caller owes.
 ghost use mathlib.Core.Path.{_≡_};
 ghost use mathlib.Core.Bool.{false};
 ghost use lib.ListN.{length};
 ghost use Rattle.model.specs.Run.{listFault};
-ghost use Rattle.buffers.specs.Layout.{stateSize};
+ghost use Rattle.state_buffer.specs.Layout.{stateSize};
 ghost use Rattle.host.specs.Contracts.{HostLoad, HostRecord, HostTest, HostRun, HostStep, HostStart, HostLength, HandedBack};
 use kernel::Ran;
 use loader::Verdict;
@@ -33,7 +33,7 @@ pub extern "C" fn mueanphrai_load(tables: &[u8], state: &mut [u8]) -> u8
             if state.len() != STATE_SIZE {
                 return 29;
             }
-            buffers::lay_state(loaded.state, state);
+            state_buffer::lay_state(loaded.state, state);
             0
         }
     }
@@ -60,7 +60,7 @@ pub extern "C" fn mueanphrai_in_range(tables: &[u8], state: &[u8]) -> u8
     if state.len() != STATE_SIZE {
         return 0;
     }
-    if kernel::in_range(tables, buffers::state_of(state)) {
+    if kernel::in_range(tables, state_buffer::state_of(state)) {
         1
     } else {
         0
@@ -91,7 +91,7 @@ fn hand_back(ran: Ran, events: &[u8], state: &mut [u8]) -> u8
     if events.len() == 0 {
         return 0;
     }
-    buffers::lay_state(ran.state, state);
+    state_buffer::lay_state(ran.state, state);
     0
 }
 
@@ -108,7 +108,7 @@ pub extern "C" fn mueanphrai_run(
     if state.len() != STATE_SIZE {
         return refused_size(events.len() % 80 == 0, events, answers);
     }
-    let ran = kernel::run(tables, buffers::state_of(state), events, answers);
+    let ran = kernel::run(tables, state_buffer::state_of(state), events, answers);
     hand_back(ran, events, state)
 }
 
@@ -125,7 +125,7 @@ pub extern "C" fn mueanphrai_step(
     if state.len() != STATE_SIZE {
         return refused_size(event.len() == 80, event, answers);
     }
-    let ran = kernel::step(tables, buffers::state_of(state), event, answers);
+    let ran = kernel::step(tables, state_buffer::state_of(state), event, answers);
     hand_back(ran, event, state)
 }
 

@@ -23,11 +23,11 @@ use Rattle.model.proofs.Lists.{events-sized}
 use Rattle.model.proofs.Ranges.{Ranged, ranged, in-range}
 use Rattle.model.proofs.Reached.{all-ranged}
 use Rattle.ports.specs.Held.{portsOf}
-use Rattle.lent.proofs.Contents.{fits-at}
+use Rattle.service_contracts.proofs.Contents.{fits-at}
 use Rattle.states.specs.declared.State.{State}
-use Rattle.ranges.specs.Tested.{indexed}
+use Rattle.state_test.specs.Tested.{indexed}
 use Rattle.states.specs.Shown.{shownState, stateFits, atLoad, allZero}
-use Rattle.settling.specs.Settled.{settledNumbers, settledBytes, Storable}
+use Rattle.settled_form.specs.Settled.{settledNumbers, settledBytes, Storable}
 use Rattle.states.proofs.Settled.{settled-shows, settled-indexed}
 use Rattle.states.proofs.Load.{load-shown, load-fits}
 use Rattle.kernel.specs.declared.Ran.{Ran}

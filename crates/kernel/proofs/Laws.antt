@@ -14,7 +14,7 @@ use Rattle.model.specs.Run.{eventsOf, listFault}
 use Rattle.model.proofs.Tests.{both-left, both-right}
 use Rattle.states.specs.declared.State.{State}
 use Rattle.states.specs.Shown.{isSound}
-use Rattle.lists.specs.Carried.{CarriedOut}
+use Rattle.tested_run.specs.Carried.{CarriedOut}
 use Rattle.kernel.specs.declared.Ran.{Ran}
 use Rattle.kernel.specs.Meets.{stateAfter, answersAfter, ListMeets}
 

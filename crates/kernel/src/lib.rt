@@ -48,7 +48,7 @@ pub fn load(t: &[u8]) -> Loaded
 pub fn in_range(t: &[u8], state: State) -> bool
     ensures { λ r. ⌜ TestMeets (now (t .entry)) state r ⌝ }
 {
-    lists::sound(t, state)
+    tested_run::sound(t, state)
 }
 
 // A list of whole records: 28, 29, then the list. An empty list is run and does nothing.
@@ -59,11 +59,11 @@ fn carry_out(t: &[u8], state: State, events: &[u8], answers: &mut [u8]) -> Ran
     if answers.len() < events.len() {
         return Ran { refusal: 28, state };
     }
-    if !lists::is_accepted(t) {
+    if !tested_run::is_accepted(t) {
         return Ran { refusal: 29, state };
     }
-    let lay = lists::layout(t);
-    if !lists::state_fits(t, lay, state) {
+    let lay = tested_run::layout(t);
+    if !tested_run::state_fits(t, lay, state) {
         return Ran { refusal: 29, state };
     }
     if events.len() == 0 {
@@ -71,7 +71,7 @@ fn carry_out(t: &[u8], state: State, events: &[u8], answers: &mut [u8]) -> Ran
     }
     Ran {
         refusal: 0,
-        state: lists::run_list(t, lay, state, events, answers),
+        state: tested_run::run_list(t, lay, state, events, answers),
     }
 }
 

@@ -7,9 +7,9 @@ ghost use Rattle.model.specs.Tables.{ports};
 ghost use Rattle.model.specs.State.{fresh};
 ghost use Rattle.model.specs.Services.{unmade, setMode};
 ghost use Rattle.ports.specs.Held.{portsOf, PortPut};
-ghost use Rattle.lent.specs.Called.{Rows, Calls};
+ghost use Rattle.service_contracts.specs.Called.{Rows, Calls};
 use events::Answer;
-use lent::Layout;
+use service_contracts::Layout;
 
 // A port as at load: not created, empty, with validity and arrival 0.
 fn unmake(numbers: &mut [u32], k: usize)

@@ -28,12 +28,12 @@ use Rattle.stores.proofs.Lists.{length-filled}
 use Rattle.stores.proofs.Laws.{written-letter}
 use Rattle.ports.specs.Held
 use Rattle.ports.specs.Held.{storeAt, portAt, PortPut}
-use Rattle.lent.specs.declared.Layout.{Layout}
-use Rattle.lent.specs.Served.{Lent, Fits, TakesOldest}
-use Rattle.lent.specs.Did
-use Rattle.lent.specs.Did.{shown, Does}
-use Rattle.lent.proofs.Contents.{none-held, some-held, oldest-held}
-use Rattle.lent.proofs.Holding.{shown-port, shown-put, row-read, fits-of, sized-at}
+use Rattle.service_contracts.specs.declared.Layout.{Layout}
+use Rattle.service_contracts.specs.Served.{Lent, Fits, TakesOldest}
+use Rattle.service_contracts.specs.Did
+use Rattle.service_contracts.specs.Did.{shown, Does}
+use Rattle.service_contracts.proofs.Contents.{none-held, some-held, oldest-held}
+use Rattle.service_contracts.proofs.Holding.{shown-port, shown-put, row-read, fits-of, sized-at}
 use Rattle.moves.specs.Moved.{Arrived, Carried, Delivered, Moved}
 use Rattle.moves.proofs.Laws.{left-ranged, held-put}
 

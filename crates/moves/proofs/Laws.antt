@@ -23,8 +23,8 @@ use Rattle.tables.specs.declared.PortRow.{PortRow}
 use Rattle.ports.specs.Held
 use Rattle.ports.specs.Held.{portAt, RowPut, PortPut}
 use Rattle.ports.proofs.Marks.{put-arrival}
-use Rattle.lent.specs.declared.Layout.{Layout}
-use Rattle.lent.specs.Did
+use Rattle.service_contracts.specs.declared.Layout.{Layout}
+use Rattle.service_contracts.specs.Did
 
 -- ---- one destination
 

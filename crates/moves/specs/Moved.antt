@@ -14,7 +14,7 @@ use Rattle.events.specs.declared.answers.Answer.{Answer}
 use Rattle.stores.specs.declared.Letter.{Letter}
 use Rattle.stores.specs.Ring.{written}
 use Rattle.ports.specs.Held.{portAt, PortPut}
-use Rattle.lent.specs.Did.{shown, Does}
+use Rattle.service_contracts.specs.Did.{shown, Does}
 
 -- the message has come to port k, of that row, at that time
 abbrev pub Arrived : (time : ℕ) → Row → Message → (k : ℕ) → (numbers bytes numbers' bytes' : List ℕ) → Type 0

@@ -7,11 +7,11 @@ ghost use Rattle.model.specs.Tables.{row, destinations, destinationPort};
 ghost use Rattle.tables.specs.Shown.{rowOf};
 ghost use Rattle.stores.specs.Ring.{written, lettered};
 ghost use Rattle.ports.specs.Held;
-ghost use Rattle.lent.specs.Served.{Fits};
-ghost use Rattle.lent.specs.Did.{Held};
+ghost use Rattle.service_contracts.specs.Served.{Fits};
+ghost use Rattle.service_contracts.specs.Did.{Held};
 ghost use Rattle.moves.specs.Moved.{Arrived, Carried, Delivered, Moved};
 use events::Answer;
-use lent::Layout;
+use service_contracts::Layout;
 use tables::PortRow;
 
 // One destination: nothing if it is not created; else it is stored or lost, and a sample has arrived now.
@@ -32,7 +32,7 @@ fn arrive(
     if ports::number(numbers, k, ports::CREATED) == 0 {
         return;
     }
-    putting::store(numbers, bytes, k, row, letter, size);
+    write_and_send::store(numbers, bytes, k, row, letter, size);
     let transfer = row.transfer;
     // the arrival time of a queuing port is never touched
     if tables::mode(transfer) == 1 {
@@ -113,7 +113,7 @@ pub fn transmit(
     if waiting(numbers, k) == 0 {
         return events::refusal(1, doer);
     }
-    let l = getting::take_oldest(numbers, bytes, k);
+    let l = read_and_receive::take_oldest(numbers, bytes, k);
     deliver(t, lay, numbers, bytes, time, c, &l.bytes, l.size);
     events::done(doer)
 }

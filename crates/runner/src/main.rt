@@ -1,5 +1,5 @@
 // The runner: 01, "The runner". It reads tables.bin in the current folder and events on standard input, and prints a line for each event. Only
-// reading and writing stand here: the kernel answers, and the crate `lines` has the text.
+// reading and writing stand here: the kernel answers, and the crate `runner_text` has the text.
 ghost use Prim.Native.Nat.{_+_, _*_, _^_, _≤_, _<_};
 ghost use lib.ListN.{length};
 use libc::STDIN_FILENO;
@@ -54,7 +54,7 @@ fn read_tables(t: &mut [u8]) -> usize
 
 fn print_refusal(number: u8, place: usize) {
     let mut text = [0u8; 60];
-    let end = lines::tables_refused(number, place, &mut text);
+    let end = runner_text::tables_refused(number, place, &mut text);
     io::write_all(STDOUT_FILENO, &text[..end]);
 }
 
@@ -62,7 +62,7 @@ fn print_refusal(number: u8, place: usize) {
 fn print_torn(tail: usize) {
     if tail > 0 {
         let mut text = [0u8; 18];
-        let end = lines::events_refused(0, &mut text);
+        let end = runner_text::events_refused(0, &mut text);
         io::write_all(STDOUT_FILENO, &text[..end]);
     }
 }
@@ -74,7 +74,7 @@ fn answer_events(t: &[u8], state: State, first: u64, events: &[u8]) -> Turned
     let mut answers = [0u8; 32_000];
     let ran = kernel::run(t, state, events, &mut answers);
     let mut text = [0u8; 127_200];
-    let end = lines::lines(first, events, &answers, &mut text);
+    let end = runner_text::lines(first, events, &answers, &mut text);
     let is_written = io::write_all(STDOUT_FILENO, &text[..end]);
     let after = ran.state;
     Turned {
@@ -89,7 +89,7 @@ fn take_turn(t: &[u8], state: State, turns: u64) -> Turned
 {
     let mut events = [0u8; 32_000];
     let got = io::read_full(STDIN_FILENO, &mut events);
-    let parts = lines::split(got);
+    let parts = runner_text::split(got);
     let end = 80 * parts.whole;
     let turned = answer_events(t, state, 400 * turns, &events[..end]);
     print_torn(parts.tail);
@@ -125,6 +125,6 @@ fn run_tables(t: &[u8]) {
 
 fn main() {
     let mut t = [0u8; 7_728];
-    let size = lines::loaded_length(read_tables(&mut t));
+    let size = runner_text::loaded_length(read_tables(&mut t));
     run_tables(&t[..size]);
 }

@@ -17,7 +17,7 @@ use Rattle.model.proofs.Ranges.{in-range}
 use Rattle.model.proofs.Reached.{loaded-ranged}
 use Rattle.stores.proofs.Laws.{queue-empty}
 use Rattle.ports.specs.Held.{allNumbers, allBytes, numbersFrom, rowOf, blockOf, storeIn, portAt, portsFrom, portsOf}
-use Rattle.ranges.specs.Tested.{indexed}
+use Rattle.state_test.specs.Tested.{indexed}
 use Rattle.states.specs.Shown.{shownState, stateFits, atLoad}
 
 -- zeros read anywhere

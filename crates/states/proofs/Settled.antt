@@ -17,9 +17,9 @@ use Rattle.stores.specs.Ring.{layOut}
 use Rattle.stores.proofs.Laws.{queue-layOut}
 use Rattle.ports.specs.Held.{rowOf, portIn, portAt, portsOf}
 use Rattle.ports.proofs.Ports.{ports-length, ports-at}
-use Rattle.ranges.specs.Tested.{indexed}
-use Rattle.settling.specs.Settled.{portNumbers, portBytes, settledNumbers, settledBytes, Storable}
-use Rattle.settling.proofs.Laid.{row-back, block-back}
+use Rattle.state_test.specs.Tested.{indexed}
+use Rattle.settled_form.specs.Settled.{portNumbers, portBytes, settledNumbers, settledBytes, Storable}
+use Rattle.settled_form.proofs.Laid.{row-back, block-back}
 
 -- each number of a search passes
 all-true : (p : ℕ → Bool) (n k e : ℕ) → k + n ≤ e → ((i : ℕ) → i < e → p i ≡ true) → all p n k ≡ true

@@ -10,9 +10,9 @@ use Rattle.model.specs.Load.{accepts}
 use Rattle.model.specs.State.{partitions, coldStart, inRange}
 use Rattle.model.specs.State as model
 use Rattle.ports.specs.Held.{allNumbers, allBytes}
-use Rattle.lent.specs.Did.{shown}
-use Rattle.ranges.specs.Tested.{indexed}
-use Rattle.settling.specs.Settled.{settledNumbers, settledBytes}
+use Rattle.service_contracts.specs.Did.{shown}
+use Rattle.state_test.specs.Tested.{indexed}
+use Rattle.settled_form.specs.Settled.{settledNumbers, settledBytes}
 use Rattle.states.specs.declared.State.{State}
 
 -- the model's state: of the port rows those of the tables' ports

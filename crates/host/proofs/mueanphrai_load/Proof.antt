@@ -3,7 +3,7 @@ use mathlib.Core.Path.{sym, _∙_, ap}
 use lib.ListN.{length}
 use borrow.Author.Tests.{eq-eqb, ne-eqb}
 use Rattle.loader.specs.Shown.{verdictOf}
-use Rattle.buffers.specs.Layout.{bytesOf}
+use Rattle.state_buffer.specs.Layout.{bytesOf}
 use Rattle.host.proofs.Calls.{load-refused, load-unsized, load-done, at-load}
 use borrow.Author.Needs.{needs}
 use Rattle.host.proofs.mueanphrai_load.Statement.{statement}

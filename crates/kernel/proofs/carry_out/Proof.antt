@@ -1,7 +1,7 @@
 -- `kernel::carry_out` meets its contract: the refusals in their order, then the list. Assumes nothing.
 use mathlib.Core.Path.{sym, _∙_}
 use borrow.Author.Tests.{not-true, not-false}
-use Rattle.lists.proofs.Laws as Sound
+use Rattle.tested_run.proofs.Laws as Sound
 use Rattle.kernel.proofs.Laws
 use borrow.Author.Needs.{needs}
 use Rattle.kernel.proofs.carry_out.Statement.{statement}

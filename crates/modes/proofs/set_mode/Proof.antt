@@ -5,8 +5,8 @@ use lib.Dec.{eqb}
 use lib.ListN.{getD, set}
 use mathlib.Core.Logic.{⊎-elim}
 use mathlib.Core.Bool.{false, _&&_, and-false}
-use Rattle.lent.specs.Did.{shown}
-use Rattle.lent.proofs.Acts.{refused-does}
+use Rattle.service_contracts.specs.Did.{shown}
+use Rattle.service_contracts.proofs.Acts.{refused-does}
 use Rattle.modes.proofs.SetMode
 use borrow.Author.Needs.{needs}
 use Rattle.modes.proofs.set_mode.Statement.{statement}

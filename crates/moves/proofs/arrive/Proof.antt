@@ -7,7 +7,7 @@ use Rattle.tables.specs.Shown.{rowOf}
 use Rattle.stores.specs.Ring.{written, lettered}
 use Rattle.ports.specs.Held.{portAt}
 use Rattle.ports.proofs.Ports.{put-is, put-kept}
-use Rattle.lent.proofs.Contents.{created-is}
+use Rattle.service_contracts.proofs.Contents.{created-is}
 use Rattle.moves.proofs.Laws.{mode-bit, arrived-uncreated, arrived-queuing, arrived-sampling, put-stamped}
 use borrow.Author.Needs.{needs}
 use Rattle.moves.proofs.arrive.Statement.{statement}

@@ -10,7 +10,7 @@ use Rattle.model.specs.Tables.{destinations}
 use Rattle.model.specs.State.{Clock}
 use Rattle.model.specs.Services.{delivered}
 use Rattle.stores.specs.Ring.{written, lettered}
-use Rattle.lent.specs.Did.{Held, shown}
+use Rattle.service_contracts.specs.Did.{Held, shown}
 use Rattle.moves.proofs.Channels.{few-records, first-channel, its-record, few-destinations, held-on, turn}
 use Rattle.moves.proofs.deliver.Statement.{statement}
 use Rattle.moves.proofs.deliver.Tie as tie

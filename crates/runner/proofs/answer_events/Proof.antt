@@ -11,7 +11,7 @@ use Rattle.runner.proofs.answer_events.Reads as reads
 use Rattle.runner.proofs.answer_events.Lts as lts
 use Rattle.io.proofs.write_all.Reads as write-all-reads
 use Rattle.kernel.proofs.run.Reads as run-reads
-use Rattle.lines.proofs.lines.Reads as lines-reads
+use Rattle.runner_text.proofs.lines.Reads as lines-reads
 
 slice-aggregate-run : tie.Need-slice-aggregate-run
 slice-aggregate-run c = search needs

@@ -9,7 +9,7 @@ use Rattle.runner.proofs.main.Statement.{statement}
 use Rattle.runner.proofs.main.Tie as tie
 use Rattle.runner.proofs.main.Reads as reads
 use Rattle.runner.proofs.main.Lts as lts
-use Rattle.lines.proofs.loaded_length.Reads as loaded-length-reads
+use Rattle.runner_text.proofs.loaded_length.Reads as loaded-length-reads
 use Rattle.runner.proofs.read_tables.Reads as read-tables-reads
 use Rattle.runner.proofs.run_tables.Reads as run-tables-reads
 

@@ -7,7 +7,7 @@ use Rattle.runner.proofs.print_refusal.Tie as tie
 use Rattle.runner.proofs.print_refusal.Reads as reads
 use Rattle.runner.proofs.print_refusal.Lts as lts
 use Rattle.io.proofs.write_all.Reads as write-all-reads
-use Rattle.lines.proofs.tables_refused.Reads as tables-refused-reads
+use Rattle.runner_text.proofs.tables_refused.Reads as tables-refused-reads
 
 slice-aggregate-tables-refused : tie.Need-slice-aggregate-tables-refused
 slice-aggregate-tables-refused c = search needs

@@ -7,7 +7,7 @@ use Rattle.runner.proofs.print_torn.Tie as tie
 use Rattle.runner.proofs.print_torn.Reads as reads
 use Rattle.runner.proofs.print_torn.Lts as lts
 use Rattle.io.proofs.write_all.Reads as write-all-reads
-use Rattle.lines.proofs.events_refused.Reads as events-refused-reads
+use Rattle.runner_text.proofs.events_refused.Reads as events-refused-reads
 
 slice-aggregate-events-refused : tie.Need-slice-aggregate-events-refused
 slice-aggregate-events-refused c = search needs

@@ -10,7 +10,7 @@ use Rattle.runner.proofs.take_turn.Tie as tie
 use Rattle.runner.proofs.take_turn.Reads as reads
 use Rattle.runner.proofs.take_turn.Lts as lts
 use Rattle.io.proofs.read_full.Reads as read-full-reads
-use Rattle.lines.proofs.split.Reads as split-reads
+use Rattle.runner_text.proofs.split.Reads as split-reads
 use Rattle.runner.proofs.answer_events.Reads as answer-events-reads
 use Rattle.runner.proofs.print_torn.Reads as print-torn-reads
 

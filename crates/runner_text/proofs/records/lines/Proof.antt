@@ -1,0 +1,79 @@
+-- `runner_text::records::lines` meets its contract: after i turns the first i lines are written. Assumes nothing.
+use Prim.Native.Nat.{_*_, _-_, _/_, _≤_}
+use mathlib.Core.Path.{_≡_, refl, sym, ap, _∙_}
+use native.Mathlib.Numerals.{add-one}
+use lib.ListN.{length}
+use Rattle.runner_text.specs.Text.{lines}
+use Rattle.runner_text.specs.Wrote.{Wrote}
+use borrow.Author.Needs.{needs}
+use Rattle.runner_text.proofs.Laws
+use native.Mathlib.Omega.{arith}
+use Rattle.runner_text.proofs.records.lines.Statement.{statement}
+use Rattle.runner_text.proofs.records.lines.Tie as tie
+use Rattle.runner_text.proofs.records.lines.Reads as reads
+use Rattle.runner_text.proofs.records.lines.Lts as lts
+use Rattle.runner_text.proofs.records.line_at.Reads as line-at-reads
+
+abbrev Inv-loop : tie.InvT-loop
+Inv-loop first events answers out₀ n at₀ i₀ out at i =
+    (n ≡ length events / 80)
+    × (i ≤ n)
+    × (length out ≡ length out₀)
+    × Wrote (318 * i) (lines first events answers i) out₀ 0 at out
+
+abbrev μ-loop : tie.MeasureT-loop
+μ-loop first events answers out₀ n at₀ i₀ out at i = n - i
+
+loop-holds : tie.Need-loop-holds Inv-loop μ-loop
+loop-holds c = (refl, omega arith, refl, Laws.wrote-none (c .before .before .before .args .out .now) 0)
+
+line-at-requires : tie.Need-line-at-requires Inv-loop μ-loop
+line-at-requires c κs =
+    let s = c .before .before .before .before .before .before in
+    let l = c .before .before .loop in
+    let below = c .before .loop-test .taken in
+    (omega (arith, l .inv .0, below), omega (arith, l .inv .0, below, s .pre .0), omega (arith, l .inv .0, l .inv .2, l .inv .3 .within, below, s .pre .1), omega (arith, l .inv .0, below, s .pre .2))
+
+add-i : tie.Need-add-i Inv-loop μ-loop
+add-i c = search needs
+
+loop-less : tie.Need-loop-less Inv-loop μ-loop
+loop-less c = search needs
+
+loop-again : tie.Need-loop-again Inv-loop μ-loop
+loop-again c =
+    let s = c .before .before .before .before .before .before .before .before .before in
+    let a = s .args in
+    let l = c .before .before .before .before .before .loop in
+    let below = c .before .before .before .before .loop-test .taken in
+    let w = c .before .before .line-at .ensures in (
+      l .inv .0,
+      omega (arith, below),
+      w .kept ∙ l .inv .2,
+      Laws.wrote-as (omega arith) (sym (ap (lines (a .first) (a .events .now) (a .answers .now)) (add-one (l .i)))) (Laws.wrote-then (omega (arith, s .pre .1, l .inv .0, below)) (l .inv .3) w),
+    )
+
+same-length : tie.Need-same-length Inv-loop μ-loop
+same-length c = c .before .loop .inv .2
+
+returns : tie.Need-returns Inv-loop μ-loop
+returns c =
+    let s = c .before .before .before .before .before in
+    let a = s .args in
+    let l = c .before .loop in
+    let all : l .i ≡ length (a .events .now) / 80 = omega (arith, l .inv .0, l .inv .1, c .loop-test .left) in
+    Laws.wrote-as (omega (arith, all)) (ap (lines (a .first) (a .events .now) (a .answers .now)) all) (l .inv .3)
+
+pub lines-spec : {M : Type 1} → statement M
+lines-spec =
+    tie.close
+    (tie.spec
+    Inv-loop
+    μ-loop
+    loop-holds
+    line-at-requires
+    add-i
+    loop-less
+    loop-again
+    same-length
+    returns)

@@ -1,0 +1,48 @@
+// The runner's text, over slices: 01, "The runner". Each function that writes is handed the place where its text starts, and answers the place
+// after it; bytes of `out` outside its text stay. Nothing here reads or writes a file.
+mod digits;
+mod records;
+mod refusals;
+
+pub use records::line;
+pub use records::lines;
+pub use refusals::events_refused;
+pub use refusals::tables_refused;
+ghost use Prim.Native.Nat.{_/_, _%_, _≤_};
+ghost use mathlib.Core.Path.{_≡_};
+ghost use Rattle.runner_text.specs.Text.{loadedLength};
+
+// An event's size, and an answer's.
+pub const EVENT_SIZE: usize = 80;
+
+// Of a longer tables.bin only so many bytes, 161 records, and the length are used.
+pub const MOST_TABLES: usize = 7_728;
+
+// How many whole records a list of bytes holds, and how many bytes its broken tail has.
+pub struct Parts {
+    pub whole: usize,
+    pub tail: usize,
+}
+
+pub fn split(length: usize) -> Parts
+    ensures { λ r. ⌜ (r .whole ≡ length / 80) × (r .tail ≡ length % 80) ⌝ }
+{
+    Parts {
+        whole: length / EVENT_SIZE,
+        tail: length % EVENT_SIZE,
+    }
+}
+
+// How many bytes of a tables.bin of this length are loaded. The empty file stands for every over-long one whose length is no multiple of 48:
+// both are refused 20 at record 0.
+pub fn loaded_length(length: usize) -> usize
+    ensures { λ r. ⌜ (r ≡ loadedLength length) × (r ≤ 7728) ⌝ }
+{
+    if length <= MOST_TABLES {
+        return length;
+    }
+    if length % 48 == 0 {
+        return MOST_TABLES;
+    }
+    0
+}

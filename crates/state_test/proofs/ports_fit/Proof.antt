@@ -1,0 +1,110 @@
+-- `state_test::ports_fit` meets its contract: the whole test is what is left of it. Assumes nothing.
+use Prim.Native.Nat.{_+_, _-_, _≤_, _<_}
+use mathlib.Core.Path.{_≡_, sym, _∙_, ap, subst}
+use native.Mathlib.Omega.{arith}
+use borrow.Author.Needs.{needs}
+use borrow.Author.Tests.{not-true, not-false}
+use Rattle.model.specs.Words.{all}
+use Rattle.model.specs.Tables.{ports, row, rowAt}
+use Rattle.model.proofs.Searches.{all-more, all-stop, all-end}
+use Rattle.model.proofs.Accepted.{accepted}
+use Rattle.model.proofs.Rows.{RowRanges}
+use Rattle.tables.specs.Shown as Shown
+use Rattle.ports.specs.Held.{rowOf}
+use Rattle.state_test.specs.Tested.{numbersFit, portFits, eachFits}
+use Rattle.service_contracts.proofs.Holding.{row-read}
+use Rattle.state_test.proofs.ports_fit.Statement.{statement}
+use Rattle.state_test.proofs.ports_fit.Tie as tie
+
+abbrev Inv-loop : tie.InvT-loop
+Inv-loop t lay numbers k₀ k = (k ≤ ports t) × (eachFits t numbers ≡ all (portFits t numbers) (ports t - k) k)
+
+abbrev μ-loop : tie.MeasureT-loop
+μ-loop t lay numbers k₀ k = lay .ports - k
+
+loop-holds : tie.Need-loop-holds Inv-loop μ-loop
+unfolding eachFits
+loop-holds c =
+    let t = c .before .before .args .t .now in
+    let whole : ports t - 0 ≡ ports t = omega arith in
+    (omega arith, ap (λ n. all (portFits t (c .before .before .args .numbers .now)) n 0) (sym whole))
+
+add-port-row : tie.Need-add-port-row Inv-loop μ-loop
+add-port-row c =
+    let s = c .before .before .before .before .before .before in
+    let t = s .args .t .now in
+    let laid = s .pre .0 .1 in
+    let a = accepted t (s .pre .0 .0) in
+    omega (arith, laid .windowed, laid .ported, a .fewWindows, a .fewPorts, c .before .if1 .taken)
+
+port-row-requires : tie.Need-port-row-requires Inv-loop μ-loop
+port-row-requires c κs =
+    let s = c .before .before .before .before .before .before in
+    let t = s .args .t .now in
+    let laid = s .pre .0 .1 in
+    let a = accepted t (s .pre .0 .0) in
+    omega (arith, laid .windowed, laid .ported, a .portsAfter, a .channelsAfter, c .before .if1 .taken)
+
+port-fits-requires : tie.Need-port-fits-requires Inv-loop μ-loop
+port-fits-requires c κs =
+    let s = c .before .before .before .before .before .before .before in
+    let l = c .before .before .before .before .loop in
+    let t = s .args .t .now in
+    let laid = s .pre .0 .1 in
+    let a = accepted t (s .pre .0 .0) in
+    let inside : l .k < ports t = omega (arith, laid .ported, c .before .before .if1 .taken) in
+    let shows : Shown.rowOf (c .port-row .result) ≡ row t (l .k) = row-read t a (l .k) inside (c .port-row .ensures ∙ ap (λ w. Shown.decoded (rowAt t (w + l .k))) (laid .windowed)) in
+    ((s .pre .1, omega (arith, a .fewPorts)), subst RowRanges (sym shows) (a .rows (l .k) inside))
+
+returns : tie.Need-returns Inv-loop μ-loop
+returns c =
+    let s = c .before .before .before .before .before .before .before .before .before in
+    let l = c .before .before .before .before .before .before .loop in
+    let t = s .args .t .now in
+    let laid = s .pre .0 .1 in
+    let a = accepted t (s .pre .0 .0) in
+    let inside : l .k < ports t = omega (arith, laid .ported, c .before .before .before .before .if1 .taken) in
+    let shows : Shown.rowOf (c .before .before .port-row .result) ≡ row t (l .k) = row-read t a (l .k) inside (c .before .before .port-row .ensures ∙ ap (λ w. Shown.decoded (rowAt t (w + l .k))) (laid .windowed)) in
+    let judged : c .before .port-fits .result ≡ portFits t (s .args .numbers .now) (l .k) = c .before .port-fits .ensures ∙ ap (λ r. numbersFit r (rowOf (s .args .numbers .now) (l .k))) shows in
+    sym (l .inv .1 ∙ all-stop (portFits t (s .args .numbers .now)) (ports t) (l .k) inside (sym judged ∙ not-true _ (c .if2 .taken)))
+
+add-k : tie.Need-add-k Inv-loop μ-loop
+add-k c = search needs
+
+loop-less : tie.Need-loop-less Inv-loop μ-loop
+loop-less c = search needs
+
+loop-again : tie.Need-loop-again Inv-loop μ-loop
+loop-again c =
+    let s = c .before .before .before .before .before .before .before .before .before in
+    let l = c .before .before .before .before .before .before .loop in
+    let t = s .args .t .now in
+    let laid = s .pre .0 .1 in
+    let a = accepted t (s .pre .0 .0) in
+    let inside : l .k < ports t = omega (arith, laid .ported, c .before .before .before .before .if1 .taken) in
+    let shows : Shown.rowOf (c .before .before .port-row .result) ≡ row t (l .k) = row-read t a (l .k) inside (c .before .before .port-row .ensures ∙ ap (λ w. Shown.decoded (rowAt t (w + l .k))) (laid .windowed)) in
+    let judged : c .before .port-fits .result ≡ portFits t (s .args .numbers .now) (l .k) = c .before .port-fits .ensures ∙ ap (λ r. numbersFit r (rowOf (s .args .numbers .now) (l .k))) shows in
+    (omega arith, l .inv .1 ∙ all-more (portFits t (s .args .numbers .now)) (ports t) (l .k) inside (sym judged ∙ not-false _ (c .if2 .left)))
+
+returns-2 : tie.Need-returns-2 Inv-loop μ-loop
+returns-2 c =
+    let s = c .before .before .before .before .before in
+    let l = c .before .before .loop in
+    let t = s .args .t .now in
+    sym (l .inv .1 ∙ all-end (portFits t (s .args .numbers .now)) (ports t) (l .k) (omega (arith, s .pre .0 .1 .ported, c .if1 .left)))
+
+pub ports-fit-spec : {M : Type 1} → statement M
+ports-fit-spec =
+    tie.close
+    (tie.spec
+    Inv-loop
+    μ-loop
+    loop-holds
+    add-port-row
+    port-row-requires
+    port-fits-requires
+    returns
+    add-k
+    loop-less
+    loop-again
+    returns-2)
