@@ -15,7 +15,7 @@ use Rattle.model.specs.Step.{answer, after}
 use Rattle.model.specs.Run.{answers, afterAll, joined}
 use Rattle.model.proofs.Accepted.{accepted}
 use Rattle.model.proofs.Lists.{after-append, answers-append, joined-append, answer-length}
-use Rattle.model.proofs.Ranges.{Ranged}
+use Rattle.model.specs.Ranged.{Ranged}
 use Rattle.model.proofs.Reached.{after-ranged}
 use Rattle.events.specs.declared.clock.Clock.{Clock}
 use Rattle.service_contracts.specs.declared.Layout.{Layout}

@@ -7,7 +7,7 @@ use Rattle.model.specs.Tables.{Tables}
 use Rattle.model.specs.State as model
 use Rattle.model.specs.Events.{Event}
 use Rattle.model.specs.Step.{doer, reply, after}
-use Rattle.model.proofs.Ranges.{Ranged}
+use Rattle.model.specs.Ranged.{Ranged}
 use Rattle.events.specs.Shown.{replied}
 use Rattle.events.specs.declared.answers.Answer.{Answer}
 use Rattle.events.specs.declared.clock.Clock.{Clock}

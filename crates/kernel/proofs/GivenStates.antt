@@ -20,7 +20,8 @@ use Rattle.model.specs.Run as Model
 use Rattle.model.proofs.Tests.{both, both-left, both-right, between-high, by-test}
 use Rattle.model.proofs.Accepted.{Accepted, accepted}
 use Rattle.model.proofs.Lists.{events-sized}
-use Rattle.model.proofs.Ranges.{Ranged, ranged, in-range}
+use Rattle.model.specs.Ranged.{Ranged}
+use Rattle.model.proofs.Ranges.{ranged, in-range}
 use Rattle.model.proofs.Reached.{all-ranged}
 use Rattle.ports.specs.Held.{portsOf}
 use Rattle.service_contracts.proofs.Contents.{fits-at}

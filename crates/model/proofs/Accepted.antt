@@ -7,7 +7,8 @@ use mathlib.Core.Logic.{_⊎_}
 use Rattle.model.specs.Tables.{Tables, records, windows, ports, portsEnd, channels, mover, windowPartition, windowLength, row, nameStart, sameName, portRecord, sourcePort, destinations, destinationPort}
 use Rattle.model.specs.Load.{accepts}
 use Rattle.model.proofs.Order.{some-window, ports-after, channels-after}
-use Rattle.model.proofs.Rows.{RowRanges, few-windows, few-ports, window-partition, window-step, row-ok, names-distinct}
+use Rattle.model.specs.Ranged.{RowRanges}
+use Rattle.model.proofs.Rows.{few-windows, few-ports, window-partition, window-step, row-ok, names-distinct}
 use Rattle.model.proofs.Ends.{SourceEnd, DestinationEnd, few-channels, source-end, destination-end, sources-distinct, destinations-distinct}
 
 pub record Accepted (t : Tables) : Type 0 where

@@ -14,19 +14,9 @@ use Rattle.model.specs.Words.{between, allIn}
 use Rattle.model.specs.Tables.{Tables, windows, Row, row, room}
 use Rattle.model.specs.Tables.{ports as portCount}
 use Rattle.model.specs.State.{Message, Port, State, fresh, partitions, normal, shortest, port, withPort, isCreated, portInRange, portsInRange, inRange}
+use Rattle.model.specs.State.{fits}
+use Rattle.model.specs.Ranged.{PortRanged, Ranged}
 use Rattle.model.proofs.Tests.{both-left, both-right, both}
-
--- a stored message fits the row
-abbrev pub fits : Row → Message → Bool
-fits r m = between shortest (r .largest) (length m)
-
--- the facts of a port in range
-pub record PortRanged (r : Row) (q : Port) : Type 0 where
-  pub marked : q .created ≤ 1
-  pub judged : q .validity ≤ 1
-  pub counted : length (q .queue) ≤ room r
-  pub sized : allIn (fits r) (q .queue) ≡ true
-  pub made : (isCreated q || eqb (length (q .queue)) 0) ≡ true
 
 pub port-ranged : (r : Row) (q : Port) → portInRange r q ≡ true → PortRanged r q
 unfolding portInRange
@@ -80,14 +70,6 @@ ports-all t k [] h = refl
 ports-all t k (q ∷ qs) h =
     both (rw add-zero at (h 0 (omega arith)))
     (ports-all t (suc k) qs (λ i l. rw (suc-add k i, ← (add-suc k i)) (h (suc i) (omega arith))))
-
--- the facts of a state in range
-pub record Ranged (t : Tables) (s : State) : Type 0 where
-  pub inWindow : s .clock .window < windows t
-  pub sixteen : length (s .modes) ≡ partitions
-  pub moded : allIn (λ m. leb m normal) (s .modes) ≡ true
-  pub whole : length (s .ports) ≡ portCount t
-  pub each : (k : ℕ) → k < portCount t → PortRanged (row t k) (port s k)
 
 pub ranged : (t : Tables) (s : State) → inRange t s ≡ true → Ranged t s
 unfolding inRange

@@ -18,7 +18,9 @@ use Rattle.model.specs.Events.{Event, eventSize, Call, need, messageOf}
 use Rattle.model.specs.Services.{Reply, refuse, done, Served, refuses, serves, atPort, directed, stored, made, put, mark, readOldest, takeOldest, get, cleared, serve, likeRow}
 use Rattle.model.specs.Services.{own, useOwn, lookUp, create, getId, unmade, withMode, setMode, service, schedule, arrived, delivered, transmitOldest, transmit}
 use Rattle.model.proofs.Tests.{both-left, both-right, both, is-between, between-low, between-high, by-test}
-use Rattle.model.proofs.Ranges.{fits, PortRanged, Ranged, with-port-ranged}
+use Rattle.model.specs.State.{fits}
+use Rattle.model.specs.Ranged.{PortRanged, Ranged}
+use Rattle.model.proofs.Ranges.{with-port-ranged}
 use Rattle.model.proofs.Accepted.{Accepted}
 
 -- messages that fit, joined

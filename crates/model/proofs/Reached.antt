@@ -18,7 +18,8 @@ use Rattle.model.specs.Run as Run
 use Rattle.model.proofs.Tests.{both, by-test}
 use Rattle.model.proofs.Accepted.{Accepted, accepted}
 use Rattle.model.proofs.Lists.{Sized, none, one, events-sized}
-use Rattle.model.proofs.Ranges.{Ranged, in-range}
+use Rattle.model.specs.Ranged.{Ranged}
+use Rattle.model.proofs.Ranges.{in-range}
 use Rattle.model.proofs.RangesKept.{Fine, fresh-ranged, service-fine, schedule-fine, transmit-fine}
 
 module _ (t : Tables) (good : Accepted t) where

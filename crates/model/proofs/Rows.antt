@@ -10,23 +10,11 @@ use lib.Dec.{leb, eqb}
 use borrow.Author.Tests.{leb-true, leb-false, eqb-true, not-false, eq-eqb}
 use Rattle.model.specs.Words.{if_then_else_, between, any, blank}
 use Rattle.model.specs.Tables.{Tables, windows, ports, portsEnd, mover, windowPartition, windowLength, start, Row, row, room, portRecord, nameStart, sameName, sampling, queuing, source, destination}
+use Rattle.model.specs.Ranged.{RowRanges}
 use Rattle.model.specs.Load.{accepts, windowFits, rowFits, portFits, fieldFault, countFault, nameFault, portNameFault, sameOwnerAndName, nameFits}
 use Rattle.model.proofs.Tests.{both-left, both-right, neither-right, between-low, between-high}
 use Rattle.model.proofs.Bounded.{any-at}
 use Rattle.model.proofs.Order.{no-fault, windows-end, ports-end, ports-after, window-kind, port-kind}
-
--- the ranges of a port row
-pub record RowRanges (r : Row) : Type 0 where
-  pub owned : r .owner < 16
-  pub moded : (r .mode ≡ sampling) ⊎ (r .mode ≡ queuing)
-  pub directed : (r .direction ≡ source) ⊎ (r .direction ≡ destination)
-  pub some : 1 ≤ r .largest
-  pub fewBytes : r .largest ≤ 64
-  pub keeps : 1 ≤ room r
-  pub keepsFew : room r ≤ 8
-  pub noDepth : r .mode ≡ sampling → r .depth ≡ 0
-  pub noRefresh : r .mode ≡ queuing → r .refresh ≡ 0
-  pub shortPeriod : r .refresh ≤ 1_000_000
 
 -- a number that is at most 1 is 0 or 1
 bit : (n : ℕ) → leb n 1 ≡ true → (n ≡ 0) ⊎ (n ≡ 1)

@@ -4,6 +4,7 @@ pub mod Words
 pub mod Tables
 pub mod Load
 pub mod State
+pub mod Ranged
 pub mod Events
 pub mod Answers
 pub mod Services

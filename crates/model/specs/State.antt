@@ -101,12 +101,16 @@ offer depth queue message = if full depth queue then queue else queue ++ message
 abbrev pub shortest : ℕ
 shortest = 1
 
+-- a stored message fits the row
+abbrev pub fits : Row → Message → Bool
+fits r m = between shortest (r .largest) (length m)
+
 unfoldable pub portInRange : Row → Port → Bool
 portInRange r q =
     leb (q .created) 1
     && leb (q .validity) 1
     && leb (length (q .queue)) (room r)
-    && allIn (λ m. between shortest (r .largest) (length m)) (q .queue)
+    && allIn (fits r) (q .queue)
     && (isCreated q || eqb (length (q .queue)) 0)
 
 abbrev pub portsInRange : Tables → ℕ → List Port → Bool

@@ -14,7 +14,8 @@ use Rattle.model.specs.State.{Message, Clock, Port, State, port, withPort, with
 use Rattle.model.specs.Answers.{nothingTold}
 use Rattle.model.specs.Services.{Reply, arrived, delivered, transmitOldest, transmit}
 use Rattle.model.proofs.Tests.{both-left, between-low, between-high, is-between}
-use Rattle.model.proofs.Ranges.{fits, PortRanged}
+use Rattle.model.specs.State.{fits}
+use Rattle.model.specs.Ranged.{PortRanged}
 use Rattle.model.proofs.RangesKept.{arrived-ranged}
 use Rattle.model.proofs.Ends.{DestinationEnd}
 use Rattle.model.proofs.Accepted.{Accepted, accepted}

@@ -16,8 +16,9 @@ use Rattle.model.specs.Tables.{ports as portCount}
 use Rattle.model.specs.State.{Message, Port, withQueue, isCreated}
 use Rattle.model.specs.Services.{stored, arrived}
 use Rattle.model.proofs.Tests.{both-right}
-use Rattle.model.proofs.Ranges.{fits, PortRanged}
-use Rattle.model.proofs.Rows.{RowRanges}
+use Rattle.model.specs.State.{fits}
+use Rattle.model.specs.Ranged.{PortRanged}
+use Rattle.model.specs.Ranged.{RowRanges}
 use Rattle.tables.specs.Shown.{rowOf}
 use Rattle.tables.specs.declared.PortRow.{PortRow}
 use Rattle.ports.specs.Held

@@ -9,7 +9,7 @@ use Rattle.model.specs.Tables.{Tables, Row, row, sourcePort, destinations}
 use Rattle.model.specs.State.{Message, Clock}
 use Rattle.model.specs.Services.{arrived, delivered, transmit}
 use Rattle.model.specs.Step.{firstChannel}
-use Rattle.model.proofs.Ranges.{fits}
+use Rattle.model.specs.State.{fits}
 use Rattle.events.specs.declared.answers.Answer.{Answer}
 use Rattle.stores.specs.declared.Letter.{Letter}
 use Rattle.stores.specs.Ring.{written}

@@ -10,7 +10,7 @@ use Rattle.model.specs.Words.{allIn}
 use Rattle.model.specs.Tables.{Row, room}
 use Rattle.model.specs.State.{Message}
 use Rattle.model.proofs.Tests.{both-left, both-right, between-high}
-use Rattle.model.proofs.Ranges.{fits}
+use Rattle.model.specs.State.{fits}
 use Rattle.tables.specs.Shown.{rowOf}
 use Rattle.tables.specs.declared.PortRow.{PortRow}
 use Rattle.stores.specs.declared.Store.{Store}

@@ -11,8 +11,8 @@ use Rattle.model.specs.Tables.{ports as portCount}
 use Rattle.model.specs.Load.{accepts}
 use Rattle.model.specs.State.{Clock, Port, port, withPort}
 use Rattle.model.proofs.Accepted.{Accepted, accepted}
-use Rattle.model.proofs.Rows.{RowRanges}
-use Rattle.model.proofs.Ranges.{PortRanged, Ranged}
+use Rattle.model.specs.Ranged.{RowRanges}
+use Rattle.model.specs.Ranged.{PortRanged, Ranged}
 use Rattle.tables.specs.Shown.{decoded}
 use Rattle.tables.specs.Shown as Shown
 use Rattle.tables.specs.declared.PortRow.{PortRow}

@@ -11,7 +11,7 @@ use Rattle.model.specs.Load.{accepts}
 use Rattle.model.specs.State.{Clock, State}
 use Rattle.model.specs.Services.{Reply}
 use Rattle.model.specs.Step.{stateOf}
-use Rattle.model.proofs.Ranges.{PortRanged}
+use Rattle.model.specs.Ranged.{PortRanged}
 use Rattle.events.specs.declared.answers.Answer.{Answer}
 use Rattle.events.specs.Shown.{replied}
 use Rattle.ports.specs.Held.{portAt, portsOf}

@@ -8,8 +8,8 @@ use Rattle.model.specs.State.{Message, withQueue}
 use Rattle.stores.specs.declared.Letter.{Letter}
 use Rattle.stores.specs.Ring.{letterOf}
 use Rattle.model.specs.Services.{Served, refuses, serves}
-use Rattle.model.proofs.Ranges.{PortRanged}
-use Rattle.model.proofs.Rows.{RowRanges}
+use Rattle.model.specs.Ranged.{PortRanged}
+use Rattle.model.specs.Ranged.{RowRanges}
 use Rattle.tables.specs.Shown.{rowOf}
 use Rattle.tables.specs.declared.PortRow.{PortRow}
 use Rattle.events.specs.declared.answers.Answer.{Answer}

@@ -13,7 +13,7 @@ use Rattle.model.specs.Words.{between, all, allIn}
 use Rattle.model.specs.Tables.{Tables, windows, Row, row, room}
 use Rattle.model.specs.Tables.{ports as portCount}
 use Rattle.model.specs.State.{Clock, shortest, portInRange, portsInRange, inRange}
-use Rattle.model.proofs.Ranges.{fits}
+use Rattle.model.specs.State.{fits}
 use Rattle.tables.specs.Shown as Shown
 use Rattle.tables.specs.declared.PortRow.{PortRow}
 use Rattle.tables.specs.declared.Transfer.the-variants.{Sampling, Queuing}

@@ -6,7 +6,7 @@ ghost use Prim.Native.Nat.{_<_, _≤_};
 ghost use lib.ListN.{length};
 ghost use Rattle.model.specs.Tables.{room};
 ghost use Rattle.model.specs.Load.{accepts};
-ghost use Rattle.model.proofs.Rows.{RowRanges};
+ghost use Rattle.model.specs.Ranged.{RowRanges};
 ghost use Rattle.tables.specs.Shown.{rowOf};
 ghost use Rattle.service_contracts.specs.Did.{Laid};
 ghost use Rattle.state_test.specs.Tested.{modesFit, lengthsFit, numbersFit, eachFits, Judges};

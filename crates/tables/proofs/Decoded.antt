@@ -5,7 +5,7 @@ use mathlib.Core.Path.{_≡_}
 use mathlib.Core.Logic.{⊎-elim}
 use borrow.Author.Tests.{eq-eqb, ne-eqb}
 use Rattle.model.specs.Tables.{sampling, queuing, Row}
-use Rattle.model.proofs.Rows.{RowRanges}
+use Rattle.model.specs.Ranged.{RowRanges}
 use Rattle.tables.specs.declared.Transfer.the-variants.{Sampling, Queuing}
 use Rattle.tables.specs.Shown.{rowOf, transferOf, decoded}
 

@@ -9,7 +9,7 @@ use borrow.Author.Tests.{le-leb, lt-leb}
 use Rattle.model.specs.State.{Message, offer}
 use Rattle.model.specs.Events.{messageOf}
 use Rattle.model.specs.Services.{stored}
-use Rattle.model.proofs.Rows.{RowRanges}
+use Rattle.model.specs.Ranged.{RowRanges}
 use Rattle.tables.specs.Shown.{rowOf}
 use Rattle.tables.specs.declared.PortRow.{PortRow}
 use Rattle.tables.specs.declared.Transfer.the-variants.{Sampling, Queuing}

@@ -8,7 +8,7 @@ use Rattle.model.specs.Words.{all}
 use Rattle.model.specs.Tables.{ports, row, rowAt}
 use Rattle.model.proofs.Searches.{all-more, all-stop, all-end}
 use Rattle.model.proofs.Accepted.{accepted}
-use Rattle.model.proofs.Rows.{RowRanges}
+use Rattle.model.specs.Ranged.{RowRanges}
 use Rattle.tables.specs.Shown as Shown
 use Rattle.ports.specs.Held.{rowOf}
 use Rattle.state_test.specs.Tested.{numbersFit, portFits, eachFits}
