@@ -9,10 +9,14 @@ ghost use Rattle.model.specs.Tables.{records, portsEnd, queuing, rowAt, endAt};
 ghost use Rattle.model.specs.Load.{ends, endFits, namedAmong, namedBefore, channelEndsFit, endFault};
 ghost use Rattle.channel_ends.specs.Pieces.{takesFrom, destinationsFit, namedInEarlier, namedAgain};
 ghost use Rattle.channel_ends.specs.Known.{Placed, SourceRecord};
+use tables::COUNT_AT;
 use tables::DESTINATION;
+use tables::ENDS_AT;
+use tables::PORT_KIND;
 use tables::QUEUING;
 use tables::RECORD_SIZE;
 use tables::SOURCE;
+use tables::WINDOW_KIND;
 use tables::kind;
 use tables::row_direction;
 use tables::row_largest;
@@ -24,7 +28,7 @@ fn end_at(t: &[u8], r: usize, j: usize) -> usize
     requires { ⌜ (r < records (now t)) × (j < 256) ⌝ }
     ensures { λ id. ⌜ id ≡ endAt (now (t .entry)) r j ⌝ }
 {
-    word16_at(t, RECORD_SIZE * r + 2 + 2 * j) as usize
+    word16_at(t, RECORD_SIZE * r + ENDS_AT + 2 * j) as usize
 }
 
 // How many ends a channel has: its source and its destinations.
@@ -32,7 +36,7 @@ fn end_count(t: &[u8], r: usize) -> usize
     requires { ⌜ r < records (now t) ⌝ }
     ensures { λ n. ⌜ n ≡ ends (now (t .entry)) r ⌝ }
 {
-    t[RECORD_SIZE * r + 1] as usize + 1
+    t[RECORD_SIZE * r + COUNT_AT] as usize + 1
 }
 
 // An id has a row.
@@ -196,7 +200,7 @@ fn channel_ends_fit(t: &[u8], first_port: usize, first_channel: usize, r: usize)
     if !destinations_fit(t, first_port, first_channel, r, source) {
         return false;
     }
-    if !count_fits(row_mode(t, source), t[RECORD_SIZE * r + 1]) {
+    if !count_fits(row_mode(t, source), t[RECORD_SIZE * r + COUNT_AT]) {
         return false;
     }
     !named_again(t, first_channel, r)
@@ -207,10 +211,10 @@ pub fn end_fault(t: &[u8], first_port: usize, first_channel: usize, r: usize) ->
     ensures { λ faulty. ⌜ faulty ≡ endFault (now (t .entry)) r ⌝ }
 {
     let k = kind(t, r);
-    if k == 1 {
+    if k == WINDOW_KIND {
         return false;
     }
-    if k == 2 {
+    if k == PORT_KIND {
         return false;
     }
     !channel_ends_fit(t, first_port, first_channel, r)

@@ -59,13 +59,13 @@ fn make(
     ensures { λ r. ⌜ Serves (now (numbers .entry)) (now (bytes .entry)) (now (numbers .exit)) (now (bytes .entry)) k doer r (made (k + 1) mode (rowOf row) (callOf f) (portAt (now (numbers .entry)) (now (bytes .entry)) k)) ⌝ }
 {
     if ports::number(numbers, k, ports::CREATED) == 1 {
-        return events::refusal(1, doer);
+        return events::refusal(events::NO_ACTION, doer);
     }
     if !like_row(row, f) {
-        return events::refusal(4, doer);
+        return events::refusal(events::INVALID_CONFIG, doer);
     }
-    if mode == 3 {
-        return events::refusal(5, doer);
+    if mode == events::NORMAL {
+        return events::refusal(events::INVALID_MODE, doer);
     }
     ports::set_number(numbers, k, ports::CREATED, 1);
     events::told_id(doer, (k + 1) as u32)
@@ -90,7 +90,7 @@ pub fn create(
     let needed = events::need(f.code);
     let k = look_up(t, lay, p, needed.mode, event);
     if lay.ports <= k {
-        return events::refusal(4, p);
+        return events::refusal(events::INVALID_CONFIG, p);
     }
     let row = tables::port_row(t, lay.windows + k);
     make(numbers, bytes, k, row, modes[p as usize], f, p)
@@ -113,10 +113,10 @@ pub fn get_id(
     let needed = events::need(f.code);
     let k = look_up(t, lay, p, needed.mode, event);
     if lay.ports <= k {
-        return events::refusal(4, p);
+        return events::refusal(events::INVALID_CONFIG, p);
     }
     if ports::number(numbers, k, ports::CREATED) != 1 {
-        return events::refusal(4, p);
+        return events::refusal(events::INVALID_CONFIG, p);
     }
     events::told_id(p, (k + 1) as u32)
 }

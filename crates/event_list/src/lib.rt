@@ -6,6 +6,7 @@ ghost use Rattle.event_step.specs.Turned.{Ready};
 ghost use Rattle.event_list.specs.Stepped.{LeavesAt, Runs};
 use event_step::turn;
 use events::Clock;
+use events::EVENT_SIZE;
 use service_contracts::Layout;
 
 // The event in record i, answered in record i.
@@ -24,8 +25,8 @@ fn turn_at(
     requires { ⌜ (80 * i + 80 ≤ length (now events)) × (80 * i + 80 ≤ length (now answers)) ⌝ }
     ensures { λ r. ⌜ LeavesAt (now (t .entry)) (take 80 (drop (80 * i) (now (events .entry)))) i clock (now (modes .entry)) (now (numbers .entry)) (now (bytes .entry)) (now (answers .entry)) r (now (modes .exit)) (now (numbers .exit)) (now (bytes .exit)) (now (answers .exit)) ⌝ }
 {
-    let at = 80 * i;
-    let end = at + 80;
+    let at = EVENT_SIZE * i;
+    let end = at + EVENT_SIZE;
     let turned = turn(t, lay, clock, modes, numbers, bytes, &events[at..end]);
     let answer = turned.answer;
     events::lay_answer(answer, &mut answers[at..end]);
@@ -47,7 +48,7 @@ pub fn run_events(
     requires { ⌜ length (now events) ≤ length (now answers) ⌝ }
     ensures { λ r. ⌜ Runs (now (t .entry)) lay (now (events .entry)) clock (now (modes .entry)) (now (numbers .entry)) (now (bytes .entry)) (now (answers .entry)) r (now (modes .exit)) (now (numbers .exit)) (now (bytes .exit)) (now (answers .exit)) ⌝ }
 {
-    let n = events.len() / 80;
+    let n = events.len() / EVENT_SIZE;
     let mut present = clock;
     let mut i: usize = 0;
     while i < n {

@@ -14,14 +14,10 @@ use events::Answer;
 use events::Asked;
 use events::Clock;
 use events::Fields;
+use events::NOBODY;
+use events::SCHEDULER;
 use service_contracts::Layout;
-
-// The doer of an event that is nobody's.
-const NOBODY: u8 = 255;
-
-const SCHEDULER: u8 = 32;
-
-const MOVER: u8 = 32;
+use tables::MOVER;
 
 // An event's answer, and the clock after it.
 pub struct Turned {
@@ -62,7 +58,7 @@ fn call_turn(
 {
     let owner = tables::window_partition(t, clock.window);
     if owner == MOVER {
-        return events::refusal(16, NOBODY);
+        return events::refusal(events::CALL_IN_MOVER_WINDOW, NOBODY);
     }
     partition_calls::service(t, lay, modes, numbers, bytes, owner, clock.time, event, f)
 }
@@ -84,11 +80,11 @@ fn move_turn(
 {
     let owner = tables::window_partition(t, clock.window);
     if owner != MOVER {
-        return events::refusal(17, NOBODY);
+        return events::refusal(events::MOVE_IN_PARTITION_WINDOW, NOBODY);
     }
     let channel = c as usize;
     if lay.channels <= channel {
-        return events::refusal(18, NOBODY);
+        return events::refusal(events::NO_CHANNEL, NOBODY);
     }
     moves::transmit(t, lay, numbers, bytes, clock.time, channel)
 }
@@ -125,7 +121,7 @@ pub fn turn(
             clock,
         },
         Asked::Unknown => Turned {
-            answer: events::refusal(19, NOBODY),
+            answer: events::refusal(events::UNKNOWN_CODE, NOBODY),
             clock,
         },
     }

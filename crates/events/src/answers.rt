@@ -5,6 +5,36 @@ ghost use lib.ListN.{length, take, drop};
 ghost use Rattle.model.specs.Answers.{nothingTold, toldId, toldNumber};
 ghost use Rattle.events.specs.Shown.{refusedAs, toldAs, headBytes, answerBytes};
 
+// Return codes.
+pub const NO_ERROR: u8 = 0;
+
+pub const NO_ACTION: u8 = 1;
+
+pub const NOT_AVAILABLE: u8 = 2;
+
+pub const INVALID_PARAM: u8 = 3;
+
+pub const INVALID_CONFIG: u8 = 4;
+
+pub const INVALID_MODE: u8 = 5;
+
+// What is answered before any service: the caller is in IDLE; a partition's call in a mover window; a move in a partition's window; a move of
+// no channel; no known code.
+pub const CALLER_IDLE: u8 = 15;
+
+pub const CALL_IN_MOVER_WINDOW: u8 = 16;
+
+pub const MOVE_IN_PARTITION_WINDOW: u8 = 17;
+
+pub const NO_CHANNEL: u8 = 18;
+
+pub const UNKNOWN_CODE: u8 = 19;
+
+// The message bytes of an answer, and where they start.
+pub const MESSAGE_SIZE: usize = 64;
+
+const MESSAGE_AT: usize = 16;
+
 pub struct Answer {
     pub code: u8,
     pub doer: u8,
@@ -17,7 +47,7 @@ pub struct Answer {
     pub direction: u8,
     pub depth: u32,
     // the message, with zeros after it
-    pub message: [u8; 64],
+    pub message: [u8; MESSAGE_SIZE],
 }
 
 // Code and doer, and zeros.
@@ -33,7 +63,7 @@ pub fn refusal(code: u8, doer: u8) -> Answer
         validity: 0,
         direction: 0,
         depth: 0,
-        message: [0; 64],
+        message: [0; MESSAGE_SIZE],
     }
 }
 
@@ -41,13 +71,13 @@ pub fn refusal(code: u8, doer: u8) -> Answer
 pub fn done(doer: u8) -> Answer
     ensures { λ r. ⌜ r ≡ toldAs doer nothingTold ⌝ }
 {
-    refusal(0, doer)
+    refusal(NO_ERROR, doer)
 }
 
 pub fn told_id(doer: u8, id: u32) -> Answer
     ensures { λ r. ⌜ r ≡ toldAs doer (toldId id) ⌝ }
 {
-    let mut a = refusal(0, doer);
+    let mut a = refusal(NO_ERROR, doer);
     a.id = id;
     a
 }
@@ -55,7 +85,7 @@ pub fn told_id(doer: u8, id: u32) -> Answer
 pub fn told_number(doer: u8, number: u32) -> Answer
     ensures { λ r. ⌜ r ≡ toldAs doer (toldNumber number) ⌝ }
 {
-    let mut a = refusal(0, doer);
+    let mut a = refusal(NO_ERROR, doer);
     a.number = number;
     a
 }
@@ -84,13 +114,13 @@ fn lay_head(a: Answer, out: &mut [u8])
 }
 
 // The message bytes, 16 to 79.
-fn lay_message(message: [u8; 64], out: &mut [u8])
+fn lay_message(message: [u8; MESSAGE_SIZE], out: &mut [u8])
     requires { ⌜ length (now out) ≡ 80 ⌝ }
     ensures { λ _. ⌜ now (out .exit) ≡ take 16 (now (out .entry)) ++ message ⌝ }
 {
     let mut i: usize = 0;
-    while i < 64 {
-        out[16 + i] = message[i];
+    while i < MESSAGE_SIZE {
+        out[MESSAGE_AT + i] = message[i];
         i = i + 1;
     }
 }

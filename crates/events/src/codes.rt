@@ -5,6 +5,10 @@ ghost use lib.Dec.{eqb};
 ghost use lib.ListN.{length};
 ghost use Rattle.model.specs.Events.{known, need, either, decode};
 ghost use Rattle.events.specs.Shown.{needOf, askedOf};
+use tables::DESTINATION;
+use tables::QUEUING;
+use tables::SAMPLING;
+use tables::SOURCE;
 use tables::word16;
 use tables::word32;
 
@@ -24,91 +28,152 @@ pub const BY_SCHEDULER: u8 = 1;
 
 pub const BY_MOVER: u8 = 2;
 
+// An event's size in bytes, and an answer's.
+pub const EVENT_SIZE: usize = 80;
+
+// Where an event's fields stand, and its message or name.
+const CODE_AT: usize = 0;
+
+const CHOICE_AT: usize = 1;
+
+const ID_AT: usize = 2;
+
+const NUMBER_AT: usize = 4;
+
+pub const SIZE_AT: usize = 8;
+
+pub const BODY_AT: usize = 16;
+
+// Partition modes.
+pub const IDLE: u8 = 0;
+
+pub const COLD_START: u8 = 1;
+
+pub const WARM_START: u8 = 2;
+
+pub const NORMAL: u8 = 3;
+
+// Doers other than the partitions: the scheduler, channel 0, nobody.
+pub const SCHEDULER: u8 = 32;
+
+pub const FIRST_CHANNEL: u8 = 64;
+
+pub const NOBODY: u8 = 255;
+
+// The codes, by 01's names.
+pub const CREATE_SAMPLING_PORT: u8 = 1;
+
+pub const WRITE_SAMPLING_MESSAGE: u8 = 2;
+
+pub const READ_SAMPLING_MESSAGE: u8 = 3;
+
+pub const GET_SAMPLING_PORT_ID: u8 = 4;
+
+pub const GET_SAMPLING_PORT_STATUS: u8 = 5;
+
+pub const CREATE_QUEUING_PORT: u8 = 6;
+
+pub const SEND_QUEUING_MESSAGE: u8 = 7;
+
+pub const RECEIVE_QUEUING_MESSAGE: u8 = 8;
+
+pub const GET_QUEUING_PORT_ID: u8 = 9;
+
+pub const GET_QUEUING_PORT_STATUS: u8 = 10;
+
+pub const CLEAR_QUEUING_PORT: u8 = 11;
+
+pub const SET_PARTITION_MODE: u8 = 12;
+
+pub const SCHEDULE: u8 = 13;
+
+pub const TRANSMIT: u8 = 14;
+
 // The one table: a row for each code, from 1 on.
 const CODES: [CodeRow; 14] = [
     // 1 CREATE_SAMPLING_PORT
     CodeRow {
-        mode: 0,
-        direction: 2,
-        caller: 0,
+        mode: SAMPLING,
+        direction: EITHER,
+        caller: BY_PARTITION,
     },
     // 2 WRITE_SAMPLING_MESSAGE
     CodeRow {
-        mode: 0,
-        direction: 0,
-        caller: 0,
+        mode: SAMPLING,
+        direction: SOURCE,
+        caller: BY_PARTITION,
     },
     // 3 READ_SAMPLING_MESSAGE
     CodeRow {
-        mode: 0,
-        direction: 1,
-        caller: 0,
+        mode: SAMPLING,
+        direction: DESTINATION,
+        caller: BY_PARTITION,
     },
     // 4 GET_SAMPLING_PORT_ID
     CodeRow {
-        mode: 0,
-        direction: 2,
-        caller: 0,
+        mode: SAMPLING,
+        direction: EITHER,
+        caller: BY_PARTITION,
     },
     // 5 GET_SAMPLING_PORT_STATUS
     CodeRow {
-        mode: 0,
-        direction: 2,
-        caller: 0,
+        mode: SAMPLING,
+        direction: EITHER,
+        caller: BY_PARTITION,
     },
     // 6 CREATE_QUEUING_PORT
     CodeRow {
-        mode: 1,
-        direction: 2,
-        caller: 0,
+        mode: QUEUING,
+        direction: EITHER,
+        caller: BY_PARTITION,
     },
     // 7 SEND_QUEUING_MESSAGE
     CodeRow {
-        mode: 1,
-        direction: 0,
-        caller: 0,
+        mode: QUEUING,
+        direction: SOURCE,
+        caller: BY_PARTITION,
     },
     // 8 RECEIVE_QUEUING_MESSAGE
     CodeRow {
-        mode: 1,
-        direction: 1,
-        caller: 0,
+        mode: QUEUING,
+        direction: DESTINATION,
+        caller: BY_PARTITION,
     },
     // 9 GET_QUEUING_PORT_ID
     CodeRow {
-        mode: 1,
-        direction: 2,
-        caller: 0,
+        mode: QUEUING,
+        direction: EITHER,
+        caller: BY_PARTITION,
     },
     // 10 GET_QUEUING_PORT_STATUS
     CodeRow {
-        mode: 1,
-        direction: 2,
-        caller: 0,
+        mode: QUEUING,
+        direction: EITHER,
+        caller: BY_PARTITION,
     },
     // 11 CLEAR_QUEUING_PORT
     CodeRow {
-        mode: 1,
-        direction: 1,
-        caller: 0,
+        mode: QUEUING,
+        direction: DESTINATION,
+        caller: BY_PARTITION,
     },
     // 12 SET_PARTITION_MODE
     CodeRow {
-        mode: 2,
-        direction: 2,
-        caller: 0,
+        mode: EITHER,
+        direction: EITHER,
+        caller: BY_PARTITION,
     },
     // 13 SCHEDULE
     CodeRow {
-        mode: 2,
-        direction: 2,
-        caller: 1,
+        mode: EITHER,
+        direction: EITHER,
+        caller: BY_SCHEDULER,
     },
     // 14 TRANSMIT
     CodeRow {
-        mode: 2,
-        direction: 2,
-        caller: 2,
+        mode: EITHER,
+        direction: EITHER,
+        caller: BY_MOVER,
     },
 ];
 
@@ -162,7 +227,7 @@ pub fn decode(event: &[u8]) -> Asked
     requires { ⌜ length (now event) ≡ 80 ⌝ }
     ensures { λ r. ⌜ askedOf r ≡ decode (now (event .entry)) ⌝ }
 {
-    let code = event[0];
+    let code = event[CODE_AT];
     if !is_known(code) {
         return Asked::Unknown;
     }
@@ -170,14 +235,14 @@ pub fn decode(event: &[u8]) -> Asked
     if row.caller == BY_PARTITION {
         return Asked::Call(Fields {
             code,
-            choice: event[1],
-            id: word16(event, 2),
-            number: word32(event, 4),
-            size: word32(event, 8),
+            choice: event[CHOICE_AT],
+            id: word16(event, ID_AT),
+            number: word32(event, NUMBER_AT),
+            size: word32(event, SIZE_AT),
         });
     }
     if row.caller == BY_SCHEDULER {
         return Asked::Clock;
     }
-    Asked::Move(word16(event, 2))
+    Asked::Move(word16(event, ID_AT))
 }

@@ -7,11 +7,13 @@ ghost use lib.ListN.{length};
 ghost use Rattle.model.specs.Run.{listFault};
 ghost use Rattle.state_buffer.specs.Layout.{stateSize};
 ghost use Rattle.host.specs.Contracts.{HostLoad, HostRecord, HostTest, HostRun, HostStep, HostStart, HostLength, HandedBack};
+use events::EVENT_SIZE;
+use kernel::ANSWERS_SHORT;
+use kernel::EVENTS_LENGTH;
 use kernel::Ran;
+use kernel::STATE_REFUSED;
 use loader::Verdict;
-
-// How many bytes a state has.
-pub const STATE_SIZE: usize = 36120;
+use state_buffer::STATE_SIZE;
 
 #[no_mangle]
 pub extern "C" fn mueanphrai_state_size() -> usize
@@ -31,7 +33,7 @@ pub extern "C" fn mueanphrai_load(tables: &[u8], state: &mut [u8]) -> u8
         Verdict::Refused(number, _) => number,
         Verdict::Accepted => {
             if state.len() != STATE_SIZE {
-                return 29;
+                return STATE_REFUSED;
             }
             state_buffer::lay_state(loaded.state, state);
             0
@@ -72,12 +74,12 @@ fn refused_size(whole: bool, events: &[u8], answers: &[u8]) -> u8
     ensures { λ r. ⌜ r ≡ listFault whole (now (events .entry)) (now (answers .entry)) false ⌝ }
 {
     if !whole {
-        return 27;
+        return EVENTS_LENGTH;
     }
     if answers.len() < events.len() {
-        return 28;
+        return ANSWERS_SHORT;
     }
-    29
+    STATE_REFUSED
 }
 
 // What the kernel gave, handed back: the refusal, and in the buffer the state after a list that was run and is not empty.
@@ -106,7 +108,7 @@ pub extern "C" fn mueanphrai_run(
     ensures { λ r. ⌜ HostRun (now (tables .entry)) (now (state .entry)) (now (events .entry)) (now (answers .entry)) r (now (state .exit)) (now (answers .exit)) ⌝ }
 {
     if state.len() != STATE_SIZE {
-        return refused_size(events.len() % 80 == 0, events, answers);
+        return refused_size(events.len() % EVENT_SIZE == 0, events, answers);
     }
     let ran = kernel::run(tables, state_buffer::state_of(state), events, answers);
     hand_back(ran, events, state)
@@ -123,7 +125,7 @@ pub extern "C" fn mueanphrai_step(
     ensures { λ r. ⌜ HostStep (now (tables .entry)) (now (state .entry)) (now (event .entry)) (now (answers .entry)) r (now (state .exit)) (now (answers .exit)) ⌝ }
 {
     if state.len() != STATE_SIZE {
-        return refused_size(event.len() == 80, event, answers);
+        return refused_size(event.len() == EVENT_SIZE, event, answers);
     }
     let ran = kernel::step(tables, state_buffer::state_of(state), event, answers);
     hand_back(ran, event, state)

@@ -10,10 +10,18 @@ ghost use Rattle.kernel.specs.Meets.{LoadMeets, TestMeets, ListMeets, Ru
 
 mod reader;
 
+use events::EVENT_SIZE;
 use loader::Verdict;
 pub use reader::place;
 pub use reader::read;
 use states::State;
+
+// The refusals of calls on lists: the events are no whole records; the answers are shorter; the tables or the state.
+pub const EVENTS_LENGTH: u8 = 27;
+
+pub const ANSWERS_SHORT: u8 = 28;
+
+pub const STATE_REFUSED: u8 = 29;
 
 // What a load gives: the verdict, and the state beside it.
 pub struct Loaded {
@@ -57,14 +65,23 @@ fn carry_out(t: &[u8], state: State, events: &[u8], answers: &mut [u8]) -> Ran
     ensures { λ r. ⌜ ListMeets (listFault true (now (events .entry)) (now (answers .entry)) (isSound (now (t .entry)) state)) (now (t .entry)) state (now (events .entry)) (now (answers .entry)) r (now (answers .exit)) ⌝ }
 {
     if answers.len() < events.len() {
-        return Ran { refusal: 28, state };
+        return Ran {
+            refusal: ANSWERS_SHORT,
+            state,
+        };
     }
     if !tested_run::is_accepted(t) {
-        return Ran { refusal: 29, state };
+        return Ran {
+            refusal: STATE_REFUSED,
+            state,
+        };
     }
     let lay = tested_run::layout(t);
     if !tested_run::state_fits(t, lay, state) {
-        return Ran { refusal: 29, state };
+        return Ran {
+            refusal: STATE_REFUSED,
+            state,
+        };
     }
     if events.len() == 0 {
         return Ran { refusal: 0, state };
@@ -79,8 +96,11 @@ fn carry_out(t: &[u8], state: State, events: &[u8], answers: &mut [u8]) -> Ran
 pub fn run(t: &[u8], state: State, events: &[u8], answers: &mut [u8]) -> Ran
     ensures { λ r. ⌜ RunMeets (now (t .entry)) state (now (events .entry)) (now (answers .entry)) r (now (answers .exit)) ⌝ }
 {
-    if events.len() % 80 != 0 {
-        return Ran { refusal: 27, state };
+    if events.len() % EVENT_SIZE != 0 {
+        return Ran {
+            refusal: EVENTS_LENGTH,
+            state,
+        };
     }
     carry_out(t, state, events, answers)
 }
@@ -89,8 +109,11 @@ pub fn run(t: &[u8], state: State, events: &[u8], answers: &mut [u8]) -> Ran
 pub fn step(t: &[u8], state: State, event: &[u8], answers: &mut [u8]) -> Ran
     ensures { λ r. ⌜ StepMeets (now (t .entry)) state (now (event .entry)) (now (answers .entry)) r (now (answers .exit)) ⌝ }
 {
-    if event.len() != 80 {
-        return Ran { refusal: 27, state };
+    if event.len() != EVENT_SIZE {
+        return Ran {
+            refusal: EVENTS_LENGTH,
+            state,
+        };
     }
     carry_out(t, state, event, answers)
 }

@@ -2,6 +2,11 @@
 ghost use mathlib.Core.Path.{_≡_};
 ghost use Rattle.model.specs.Answers.{isHanded};
 ghost use Rattle.kernel.specs.Meets.{StretchMeets, ReadMeets};
+use events::BODY_AT;
+use events::EVENT_SIZE;
+use events::NO_ERROR;
+use events::SIZE_AT;
+use record_fields::LONGEST_MESSAGE;
 use tables::word32;
 
 // Where a stretch of the answers starts, and its length.
@@ -14,16 +19,16 @@ pub struct Stretch {
 fn is_handed(answers: &[u8], number: usize) -> bool
     ensures { λ r. ⌜ r ≡ isHanded (now (answers .entry)) number ⌝ }
 {
-    if answers.len() % 80 != 0 {
+    if answers.len() % EVENT_SIZE != 0 {
         return false;
     }
-    if answers.len() / 80 <= number {
+    if answers.len() / EVENT_SIZE <= number {
         return false;
     }
-    if answers[80 * number] != 0 {
+    if answers[EVENT_SIZE * number] != NO_ERROR {
         return false;
     }
-    word32(answers, 80 * number + 8) <= 64
+    word32(answers, EVENT_SIZE * number + SIZE_AT) <= LONGEST_MESSAGE
 }
 
 // Bytes 16 up to 16 plus length of the record asked for, or the empty stretch at the start.
@@ -34,8 +39,8 @@ pub fn place(answers: &[u8], number: usize) -> Stretch
         return Stretch { from: 0, size: 0 };
     }
     Stretch {
-        from: 80 * number + 16,
-        size: word32(answers, 80 * number + 8) as usize,
+        from: EVENT_SIZE * number + BODY_AT,
+        size: word32(answers, EVENT_SIZE * number + SIZE_AT) as usize,
     }
 }
 

@@ -13,7 +13,9 @@ use channel_ends::end_fault;
 use record_fields::between;
 use record_fields::field_fault;
 use record_fields::name_fault;
+use tables::PORT_KIND;
 use tables::RECORD_SIZE;
+use tables::WINDOW_KIND;
 use tables::kind;
 use tables::ports_end_from;
 use tables::records;
@@ -26,6 +28,26 @@ pub const MOST_WINDOWS: usize = 64;
 pub const MOST_PORTS: usize = 64;
 
 pub const MOST_CHANNELS: usize = 32;
+
+// Byte 0 of a record is one of these kinds, window, port or channel.
+const FIRST_KIND: u32 = 1;
+
+const LAST_KIND: u32 = 3;
+
+// The refusals of tables.
+pub const LENGTH_REFUSED: u8 = 20;
+
+pub const KIND_REFUSED: u8 = 21;
+
+pub const TOO_MANY: u8 = 22;
+
+pub const FIELD_REFUSED: u8 = 23;
+
+pub const NAME_REFUSED: u8 = 24;
+
+pub const END_REFUSED: u8 = 25;
+
+pub const NO_WINDOW: u8 = 26;
 
 // What a load says of tables. `verdictOf` of specs/Shown.antt gives the paper's number and record for each case.
 pub enum Verdict {
@@ -57,7 +79,7 @@ fn kind_fault(t: &[u8], r: usize) -> bool
     requires { ⌜ r < records (now t) ⌝ }
     ensures { λ faulty. ⌜ faulty ≡ kindFault (now (t .entry)) r ⌝ }
 {
-    !between(1, 3, wide(kind(t, r))) || below_before(t, r)
+    !between(FIRST_KIND, LAST_KIND, wide(kind(t, r))) || below_before(t, r)
 }
 
 // How many records lie between a first one and r; none where r comes before it.
@@ -73,10 +95,10 @@ fn count_fault(t: &[u8], first_port: usize, first_channel: usize, r: usize) -> b
     ensures { λ faulty. ⌜ faulty ≡ countFault (now (t .entry)) r ⌝ }
 {
     let k = kind(t, r);
-    if k == 1 {
+    if k == WINDOW_KIND {
         return MOST_WINDOWS <= r;
     }
-    if k == 2 {
+    if k == PORT_KIND {
         return MOST_PORTS <= beyond(r, first_port);
     }
     MOST_CHANNELS <= beyond(r, first_channel)
@@ -88,19 +110,19 @@ fn lowest(kind: bool, count: bool, field: bool, name: bool, end: bool) -> u8
     ensures { λ number. ⌜ number ≡ lowest kind count field name end ⌝ }
 {
     if kind {
-        return 21;
+        return KIND_REFUSED;
     }
     if count {
-        return 22;
+        return TOO_MANY;
     }
     if field {
-        return 23;
+        return FIELD_REFUSED;
     }
     if name {
-        return 24;
+        return NAME_REFUSED;
     }
     if end {
-        return 25;
+        return END_REFUSED;
     }
     0
 }
@@ -141,7 +163,7 @@ pub fn judge(t: &[u8]) -> Verdict
     ensures { λ verdict. ⌜ verdictOf verdict ≡ loadOf (now (t .entry)) ⌝ }
 {
     if length_fault(t) {
-        return Verdict::Refused(20, 0);
+        return Verdict::Refused(LENGTH_REFUSED, 0);
     }
     let first_port = windows(t);
     let first_channel = ports_end_from(t, first_port);
@@ -151,7 +173,7 @@ pub fn judge(t: &[u8]) -> Verdict
         return Verdict::Refused(fault(t, first_port, first_channel, r), r);
     }
     if first_port == 0 {
-        return Verdict::Refused(26, end);
+        return Verdict::Refused(NO_WINDOW, end);
     }
     Verdict::Accepted
 }

@@ -9,7 +9,12 @@ ghost use Rattle.model.specs.Services.{unmade, setMode};
 ghost use Rattle.ports.specs.Held.{portsOf, PortPut};
 ghost use Rattle.service_contracts.specs.Called.{Rows, Calls};
 use events::Answer;
+use events::COLD_START;
+use events::NORMAL;
+use events::WARM_START;
 use service_contracts::Layout;
+use tables::OWNER_AT;
+use tables::RECORD_SIZE;
 
 // A port as at load: not created, empty, with validity and arrival 0.
 fn unmake(numbers: &mut [u32], k: usize)
@@ -30,7 +35,7 @@ fn unmake_all(t: &[u8], lay: Layout, numbers: &mut [u32], p: u8)
 {
     let mut k: usize = 0;
     while k < lay.ports {
-        if t[48 * (lay.windows + k) + 1] == p {
+        if t[RECORD_SIZE * (lay.windows + k) + OWNER_AT] == p {
             unmake(numbers, k);
         }
         k = k + 1;
@@ -52,19 +57,19 @@ pub fn set_mode(
 {
     let at = p as usize;
     let mode = modes[at];
-    if 3 < m {
-        return events::refusal(3, p);
+    if NORMAL < m {
+        return events::refusal(events::INVALID_PARAM, p);
     }
-    if m == 3 {
-        if mode == 3 {
-            return events::refusal(1, p);
+    if m == NORMAL {
+        if mode == NORMAL {
+            return events::refusal(events::NO_ACTION, p);
         }
         modes[at] = m;
         return events::done(p);
     }
-    if m == 2 {
-        if mode == 1 {
-            return events::refusal(5, p);
+    if m == WARM_START {
+        if mode == COLD_START {
+            return events::refusal(events::INVALID_MODE, p);
         }
     }
     modes[at] = m;

@@ -108,10 +108,10 @@ pub fn transmit(
     requires { ⌜ c < lay .channels ⌝ }
     ensures { λ r. ⌜ Moved (now (t .entry)) time c r (now (numbers .entry)) (now (bytes .entry)) (now (numbers .exit)) (now (bytes .exit)) ⌝ }
 {
-    let doer = 64 + c as u8;
+    let doer = events::FIRST_CHANNEL + c as u8;
     let k = tables::source_port(t, lay.windows + lay.ports, c);
     if waiting(numbers, k) == 0 {
-        return events::refusal(1, doer);
+        return events::refusal(events::NO_ACTION, doer);
     }
     let l = read_and_receive::take_oldest(numbers, bytes, k);
     deliver(t, lay, numbers, bytes, time, c, &l.bytes, l.size);

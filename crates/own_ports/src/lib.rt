@@ -56,7 +56,7 @@ pub fn use_own(
     ensures { λ r. ⌜ ((modes : List ℕ) → Calls (now (t .entry)) (λ s. useOwn (now (t .entry)) time s p (now (event .entry)) (callOf f)) p r modes (now (numbers .entry)) (now (bytes .entry)) modes (now (numbers .exit)) (now (bytes .exit))) ⌝ }
 {
     if !own(t, lay, numbers, p, f) {
-        return events::refusal(3, p);
+        return events::refusal(events::INVALID_PARAM, p);
     }
     let k = f.id as usize - 1;
     let row = tables::port_row(t, lay.windows + k);

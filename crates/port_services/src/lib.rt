@@ -11,10 +11,16 @@ ghost use Rattle.events.specs.Shown.{callOf, toldAs};
 ghost use Rattle.ports.specs.Held.{portAt};
 ghost use Rattle.service_contracts.specs.Served.{Fits, Serves};
 use events::Answer;
+use events::CLEAR_QUEUING_PORT;
 use events::Fields;
+use events::READ_SAMPLING_MESSAGE;
+use events::RECEIVE_QUEUING_MESSAGE;
+use events::SEND_QUEUING_MESSAGE;
+use events::WRITE_SAMPLING_MESSAGE;
 use read_and_receive::clear;
 use read_and_receive::get;
 use tables::PortRow;
+use tables::SOURCE;
 use tables::Transfer;
 use write_and_send::put;
 
@@ -22,7 +28,7 @@ use write_and_send::put;
 fn count_told(direction: u8, count: u32) -> u32
     ensures { λ r. ⌜ r ≡ (if eqb direction 0 then 0 else count) ⌝ }
 {
-    if direction == 0 { 0 } else { count }
+    if direction == SOURCE { 0 } else { count }
 }
 
 // 5 and 10: the row's numbers, with the last validity (5) or the message count (10).
@@ -65,9 +71,25 @@ pub fn serve(
 {
     let code = f.code;
     match code {
-        2 | 7 => put(numbers, bytes, k, row, event, f, doer),
-        3 | 8 => get(numbers, bytes, k, row, time, f, doer),
-        11 => clear(numbers, bytes, k, row, f, doer),
+        WRITE_SAMPLING_MESSAGE | SEND_QUEUING_MESSAGE => put(
+            numbers,
+            bytes,
+            k,
+            row,
+            event,
+            f,
+            doer,
+        ),
+        READ_SAMPLING_MESSAGE | RECEIVE_QUEUING_MESSAGE => get(
+            numbers,
+            bytes,
+            k,
+            row,
+            time,
+            f,
+            doer,
+        ),
+        CLEAR_QUEUING_PORT => clear(numbers, bytes, k, row, f, doer),
         _ => status(numbers, bytes, k, row, doer),
     }
 }

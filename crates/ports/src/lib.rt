@@ -5,8 +5,18 @@ ghost use lib.ListN.{length, getD, set, drop};
 ghost use Rattle.ports.specs.Held.{rowOf, blockOf, storeAt, portAt, RowPut, PortPut};
 ghost use Rattle.model.specs.State.{withQueue};
 ghost use Rattle.stores.specs.Ring.{pasted, queueOf};
+use stores::BLOCK_SIZE;
+use stores::SLOTS;
 use stores::Store;
 
+// Port rows, the numbers of one and of all, and the message bytes of all.
+pub const ROW_SIZE: usize = 13;
+
+pub const ALL_NUMBERS: usize = 832;
+
+pub const ALL_BYTES: usize = 32768;
+
+// The numbers of a port row, by their places.
 pub const CREATED: usize = 0;
 
 pub const VALIDITY: usize = 1;
@@ -17,30 +27,33 @@ pub const OLDEST: usize = 3;
 
 pub const COUNT: usize = 4;
 
+// the first of the lengths in the eight slots
+pub const LENGTHS: usize = 5;
+
 // One of the thirteen numbers of port k.
 pub fn number(numbers: &[u32], k: usize, j: usize) -> u32
     requires { ⌜ (length (now numbers) ≡ 832) × (k < 64) × (j < 13) ⌝ }
     ensures { λ r. ⌜ r ≡ getD (rowOf (now (numbers .entry)) k) j 0 ⌝ }
 {
-    numbers[13 * k + j]
+    numbers[ROW_SIZE * k + j]
 }
 
 pub fn set_number(numbers: &mut [u32], k: usize, j: usize, v: u32)
     requires { ⌜ (length (now numbers) ≡ 832) × (k < 64) × (j < 13) ⌝ }
     ensures { λ _. ⌜ RowPut (now (numbers .entry)) (now (numbers .exit)) k (set (rowOf (now (numbers .entry)) k) j v) ⌝ }
 {
-    numbers[13 * k + j] = v;
+    numbers[ROW_SIZE * k + j] = v;
 }
 
 // The message bytes of port k.
-fn take_block(bytes: &[u8], k: usize) -> [u8; 512]
+fn take_block(bytes: &[u8], k: usize) -> [u8; BLOCK_SIZE]
     requires { ⌜ (length (now bytes) ≡ 32768) × (k < 64) ⌝ }
     ensures { λ r. ⌜ r ≡ blockOf (now (bytes .entry)) k ⌝ }
 {
-    let at = 512 * k;
-    let mut block = [0u8; 512];
+    let at = BLOCK_SIZE * k;
+    let mut block = [0u8; BLOCK_SIZE];
     let mut i: usize = 0;
-    while i < 512 {
+    while i < BLOCK_SIZE {
         block[i] = bytes[at + i];
         i = i + 1;
     }
@@ -48,14 +61,14 @@ fn take_block(bytes: &[u8], k: usize) -> [u8; 512]
 }
 
 // The lengths in the eight slots of port k.
-fn take_lengths(numbers: &[u32], k: usize) -> [u32; 8]
+fn take_lengths(numbers: &[u32], k: usize) -> [u32; SLOTS]
     requires { ⌜ (length (now numbers) ≡ 832) × (k < 64) ⌝ }
     ensures { λ r. ⌜ r ≡ drop 5 (rowOf (now (numbers .entry)) k) ⌝ }
 {
-    let mut lengths = [0u32; 8];
+    let mut lengths = [0u32; SLOTS];
     let mut i: usize = 0;
-    while i < 8 {
-        lengths[i] = number(numbers, k, 5 + i);
+    while i < SLOTS {
+        lengths[i] = number(numbers, k, LENGTHS + i);
         i = i + 1;
     }
     lengths
@@ -107,6 +120,6 @@ pub fn put_store(numbers: &mut [u32], bytes: &mut [u8], k: usize, st: Store)
 {
     set_number(numbers, k, OLDEST, st.oldest);
     set_number(numbers, k, COUNT, st.count);
-    lay_numbers(numbers, 13 * k + 5, &st.lengths);
-    lay_bytes(bytes, 512 * k, &st.bytes);
+    lay_numbers(numbers, ROW_SIZE * k + LENGTHS, &st.lengths);
+    lay_bytes(bytes, BLOCK_SIZE * k, &st.bytes);
 }

@@ -22,7 +22,7 @@ fn told_message(doer: u8, l: Letter, validity: u8) -> Answer
 {
     let message = l.bytes;
     Answer {
-        code: 0,
+        code: events::NO_ERROR,
         doer,
         id: 0,
         number: 0,
@@ -64,7 +64,7 @@ fn read(numbers: &mut [u32], bytes: &[u8], k: usize, row: PortRow, time: u32, do
     ensures { λ r. ⌜ Serves (now (numbers .entry)) (now (bytes .entry)) (now (numbers .exit)) (now (bytes .entry)) k doer r (readOldest (rowOf row .refresh) time (portAt (now (numbers .entry)) (now (bytes .entry)) k) (portAt (now (numbers .entry)) (now (bytes .entry)) k .queue)) ⌝ }
 {
     if ports::number(numbers, k, ports::COUNT) == 0 {
-        return events::refusal(1, doer);
+        return events::refusal(events::NO_ACTION, doer);
     }
     let l = stores::oldest(ports::take_store(numbers, bytes, k));
     let transfer = row.transfer;
@@ -83,7 +83,7 @@ fn receive(numbers: &mut [u32], bytes: &[u8], k: usize, doer: u8) -> Answer
     ensures { λ r. ⌜ Serves (now (numbers .entry)) (now (bytes .entry)) (now (numbers .exit)) (now (bytes .entry)) k doer r (takeOldest (portAt (now (numbers .entry)) (now (bytes .entry)) k) (portAt (now (numbers .entry)) (now (bytes .entry)) k .queue)) ⌝ }
 {
     if ports::number(numbers, k, ports::COUNT) == 0 {
-        return events::refusal(2, doer);
+        return events::refusal(events::NOT_AVAILABLE, doer);
     }
     told_message(doer, take_oldest(numbers, bytes, k), 0)
 }
@@ -103,9 +103,9 @@ pub fn get(
     ensures { λ r. ⌜ Serves (now (numbers .entry)) (now (bytes .entry)) (now (numbers .exit)) (now (bytes .entry)) k doer r (get time (rowOf row) (callOf f) (portAt (now (numbers .entry)) (now (bytes .entry)) k)) ⌝ }
 {
     if !events::directed(f.code, row.direction) {
-        return events::refusal(5, doer);
+        return events::refusal(events::INVALID_MODE, doer);
     }
-    if f.code == 3 {
+    if f.code == events::READ_SAMPLING_MESSAGE {
         return read(numbers, bytes, k, row, time, doer);
     }
     receive(numbers, bytes, k, doer)
@@ -125,7 +125,7 @@ pub fn clear(
     ensures { λ r. ⌜ Serves (now (numbers .entry)) (now (bytes .entry)) (now (numbers .exit)) (now (bytes .entry)) k doer r (cleared (rowOf row) (callOf f) (portAt (now (numbers .entry)) (now (bytes .entry)) k)) ⌝ }
 {
     if !events::directed(f.code, row.direction) {
-        return events::refusal(5, doer);
+        return events::refusal(events::INVALID_MODE, doer);
     }
     ports::set_number(numbers, k, ports::COUNT, 0);
     events::done(doer)

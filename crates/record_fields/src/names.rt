@@ -7,6 +7,9 @@ ghost use lib.ListN.{length};
 ghost use Rattle.model.specs.Tables.{records, windows};
 ghost use Rattle.model.specs.Load.{nameFits, sameOwnerAndName, portNameFault, nameFault};
 ghost use Rattle.record_fields.specs.Pieces.{ended, namedEarlier};
+use tables::NAME_AT;
+use tables::OWNER_AT;
+use tables::PORT_KIND;
 use tables::RECORD_SIZE;
 use tables::kind;
 use tables::same_name;
@@ -45,8 +48,8 @@ fn same_owner_and_name(t: &[u8], r: usize, q: usize) -> bool
     requires { ⌜ q < records (now t) ⌝ }
     ensures { λ same. ⌜ same ≡ sameOwnerAndName (now (t .entry)) r q ⌝ }
 {
-    t[RECORD_SIZE * q + 1] == t[RECORD_SIZE * r + 1]
-        && same_name(t, RECORD_SIZE * q + 16, t, RECORD_SIZE * r + 16)
+    t[RECORD_SIZE * q + OWNER_AT] == t[RECORD_SIZE * r + OWNER_AT]
+        && same_name(t, RECORD_SIZE * q + NAME_AT, t, RECORD_SIZE * r + NAME_AT)
 }
 
 // An earlier port has the owner and name of the port in record r.
@@ -70,7 +73,7 @@ fn port_name_fault(t: &[u8], first_port: usize, r: usize) -> bool
     requires { ⌜ r < records (now t) ⌝ }
     ensures { λ faulty. ⌜ faulty ≡ portNameFault (now (t .entry)) r ⌝ }
 {
-    !name_fits(t, RECORD_SIZE * r + 16) || named_earlier(t, first_port, r)
+    !name_fits(t, RECORD_SIZE * r + NAME_AT) || named_earlier(t, first_port, r)
 }
 
 pub fn name_fault(t: &[u8], first_port: usize, r: usize) -> bool
@@ -78,7 +81,7 @@ pub fn name_fault(t: &[u8], first_port: usize, r: usize) -> bool
     requires { ⌜ r < records (now t) ⌝ }
     ensures { λ faulty. ⌜ faulty ≡ nameFault (now (t .entry)) r ⌝ }
 {
-    if kind(t, r) == 2 {
+    if kind(t, r) == PORT_KIND {
         return port_name_fault(t, first_port, r);
     }
     false

@@ -7,11 +7,32 @@ ghost use Rattle.model.specs.Words.{if_then_else_, between};
 ghost use Rattle.model.specs.Tables.{records, mover, sampling, queuing, destination, rowAt};
 ghost use Rattle.model.specs.Load.{windowFits, rowFits, portFits, channelFits, fieldFault};
 ghost use Rattle.record_fields.specs.Pieces.{unusedBlank};
-use super::MOVER;
+use super::DEEPEST;
+use super::LAST_PARTITION;
+use super::LONGEST_MESSAGE;
+use super::LONGEST_PERIOD;
+use super::LONGEST_WINDOW;
+use super::MOST_DESTINATIONS;
+use tables::CHANNEL_END;
+use tables::CHANNEL_REST;
+use tables::COUNT_AT;
+use tables::DEPTH_AT;
 use tables::DESTINATION;
+use tables::DIRECTION_AT;
+use tables::LARGEST_AT;
+use tables::MODE_AT;
+use tables::MOVER;
+use tables::OWNER_AT;
+use tables::PORT_END;
+use tables::PORT_KIND;
+use tables::PORT_REST;
 use tables::QUEUING;
 use tables::RECORD_SIZE;
+use tables::REFRESH_AT;
 use tables::SAMPLING;
+use tables::WINDOW_END;
+use tables::WINDOW_KIND;
+use tables::WINDOW_REST;
 use tables::blank;
 use tables::id_at;
 use tables::kind;
@@ -30,7 +51,7 @@ pub fn between(low: u32, high: u32, x: u32) -> bool
 fn partition_fits(partition: u8) -> bool
     ensures { λ r. ⌜ r ≡ (leb partition 15 || eqb partition mover) ⌝ }
 {
-    partition <= 15 || partition == MOVER
+    partition <= LAST_PARTITION || partition == MOVER
 }
 
 fn window_fits(t: &[u8], r: usize) -> bool
@@ -40,10 +61,10 @@ fn window_fits(t: &[u8], r: usize) -> bool
     if !partition_fits(window_partition(t, r)) {
         return false;
     }
-    if !between(1, 10_000, window_length(t, r)) {
+    if !between(1, LONGEST_WINDOW, window_length(t, r)) {
         return false;
     }
-    blank(t, 44, RECORD_SIZE * r + 4)
+    blank(t, WINDOW_REST, RECORD_SIZE * r + WINDOW_END)
 }
 
 // 1..8 for queuing, 0 for sampling.
@@ -51,7 +72,7 @@ fn depth_fits(mode: u8, depth: u32) -> bool
     ensures { λ r. ⌜ r ≡ (if eqb mode queuing then between 1 8 depth else eqb depth 0) ⌝ }
 {
     if mode == QUEUING {
-        between(1, 8, depth)
+        between(1, DEEPEST, depth)
     } else {
         depth == 0
     }
@@ -72,7 +93,7 @@ fn refresh_fits(mode: u8, direction: u8, refresh: u32) -> bool
         ⌝ }
 {
     if is_sampling_destination(mode, direction) {
-        between(1, 1_000_000, refresh)
+        between(1, LONGEST_PERIOD, refresh)
     } else {
         refresh == 0
     }
@@ -83,31 +104,31 @@ fn row_fits(t: &[u8], r: usize) -> bool
     ensures { λ fits. ⌜ fits ≡ rowFits (rowAt (now (t .entry)) r) ⌝ }
 {
     let at = RECORD_SIZE * r;
-    let mode = t[at + 2];
-    let direction = t[at + 3];
-    if 15 < t[at + 1] {
+    let mode = t[at + MODE_AT];
+    let direction = t[at + DIRECTION_AT];
+    if LAST_PARTITION < t[at + OWNER_AT] {
         return false;
     }
-    if 1 < mode {
+    if QUEUING < mode {
         return false;
     }
-    if 1 < direction {
+    if DESTINATION < direction {
         return false;
     }
-    if !between(1, 64, word32(t, at + 4)) {
+    if !between(1, LONGEST_MESSAGE, word32(t, at + LARGEST_AT)) {
         return false;
     }
-    if !depth_fits(mode, word32(t, at + 8)) {
+    if !depth_fits(mode, word32(t, at + DEPTH_AT)) {
         return false;
     }
-    refresh_fits(mode, direction, word32(t, at + 12))
+    refresh_fits(mode, direction, word32(t, at + REFRESH_AT))
 }
 
 fn port_fits(t: &[u8], r: usize) -> bool
     requires { ⌜ r < records (now t) ⌝ }
     ensures { λ fits. ⌜ fits ≡ portFits (now (t .entry)) r ⌝ }
 {
-    row_fits(t, r) && blank(t, 2, RECORD_SIZE * r + 46)
+    row_fits(t, r) && blank(t, PORT_REST, RECORD_SIZE * r + PORT_END)
 }
 
 // The ids past a channel's count, of the eight at ends 1 to 8, are zero.
@@ -129,14 +150,14 @@ fn channel_fits(t: &[u8], r: usize) -> bool
     requires { ⌜ r < records (now t) ⌝ }
     ensures { λ fits. ⌜ fits ≡ channelFits (now (t .entry)) r ⌝ }
 {
-    let count = t[RECORD_SIZE * r + 1];
-    if !between(1, 8, wide(count)) {
+    let count = t[RECORD_SIZE * r + COUNT_AT];
+    if !between(1, MOST_DESTINATIONS, wide(count)) {
         return false;
     }
     if !unused_blank(t, r, count) {
         return false;
     }
-    blank(t, 28, RECORD_SIZE * r + 20)
+    blank(t, CHANNEL_REST, RECORD_SIZE * r + CHANNEL_END)
 }
 
 pub fn field_fault(t: &[u8], r: usize) -> bool
@@ -144,10 +165,10 @@ pub fn field_fault(t: &[u8], r: usize) -> bool
     ensures { λ faulty. ⌜ faulty ≡ fieldFault (now (t .entry)) r ⌝ }
 {
     let k = kind(t, r);
-    if k == 1 {
+    if k == WINDOW_KIND {
         return !window_fits(t, r);
     }
-    if k == 2 {
+    if k == PORT_KIND {
         return !port_fits(t, r);
     }
     !channel_fits(t, r)

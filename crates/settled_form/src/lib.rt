@@ -20,9 +20,13 @@ fn put_port(numbers: &[u32], bytes: &[u8], k: usize, out_numbers: &mut [u32], ou
         st.oldest,
         st.count,
     ];
-    ports::lay_numbers(out_numbers, 13 * k, &first);
-    ports::lay_numbers(out_numbers, 13 * k + 5, &st.lengths);
-    ports::lay_bytes(out_bytes, 512 * k, &st.bytes);
+    ports::lay_numbers(out_numbers, ports::ROW_SIZE * k, &first);
+    ports::lay_numbers(
+        out_numbers,
+        ports::ROW_SIZE * k + ports::LENGTHS,
+        &st.lengths,
+    );
+    ports::lay_bytes(out_bytes, stores::BLOCK_SIZE * k, &st.bytes);
 }
 
 // The first n ports in settled form: the oldest message in slot 0, zeros wherever no message stands. The other rows stay, since those

@@ -5,9 +5,25 @@ ghost use lib.ListN.{length, take, drop};
 ghost use Rattle.model.specs.Words.{bytes32};
 ghost use Rattle.stores.specs.Ring.{pasted};
 ghost use Rattle.state_buffer.specs.Layout.{stateSize, numbersFrom, bytesOfAll, stateOf, bytesOf};
+use ports::ALL_BYTES;
+use ports::ALL_NUMBERS;
 use ports::lay_bytes;
+use states::PARTITIONS;
 use states::State;
 use tables::word32;
+
+// How many bytes a state has, and where its parts stand.
+pub const STATE_SIZE: usize = 36120;
+
+const WINDOW_AT: usize = 0;
+
+const TIME_AT: usize = 4;
+
+const MODES_AT: usize = 8;
+
+const NUMBERS_AT: usize = 24;
+
+const BYTES_AT: usize = 3352;
 
 // The numbers that stand from a place on, as many as are asked for.
 fn read_numbers(b: &[u8], at: usize, out: &mut [u32])
@@ -37,15 +53,15 @@ pub fn state_of(b: &[u8]) -> State
     requires { ⌜ length (now b) ≡ stateSize ⌝ }
     ensures { λ r. ⌜ r ≡ stateOf (now (b .entry)) ⌝ }
 {
-    let mut modes = [0; 16];
-    let mut numbers = [0; 832];
-    let mut bytes = [0; 32768];
-    read_bytes(b, 8, &mut modes);
-    read_numbers(b, 24, &mut numbers);
-    read_bytes(b, 3352, &mut bytes);
+    let mut modes = [0; PARTITIONS];
+    let mut numbers = [0; ALL_NUMBERS];
+    let mut bytes = [0; ALL_BYTES];
+    read_bytes(b, MODES_AT, &mut modes);
+    read_numbers(b, NUMBERS_AT, &mut numbers);
+    read_bytes(b, BYTES_AT, &mut bytes);
     State {
-        window: word32(b, 0),
-        time: word32(b, 4),
+        window: word32(b, WINDOW_AT),
+        time: word32(b, TIME_AT),
         modes,
         numbers,
         bytes,
@@ -81,9 +97,9 @@ pub fn lay_state(state: State, out: &mut [u8])
     let modes = state.modes;
     let numbers = state.numbers;
     let bytes = state.bytes;
-    lay_number(out, 0, state.window);
-    lay_number(out, 4, state.time);
-    lay_bytes(out, 8, &modes);
-    lay_numbers(out, 24, &numbers);
-    lay_bytes(out, 3352, &bytes);
+    lay_number(out, WINDOW_AT, state.window);
+    lay_number(out, TIME_AT, state.time);
+    lay_bytes(out, MODES_AT, &modes);
+    lay_numbers(out, NUMBERS_AT, &numbers);
+    lay_bytes(out, BYTES_AT, &bytes);
 }

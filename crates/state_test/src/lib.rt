@@ -15,13 +15,16 @@ use service_contracts::Layout;
 use tables::PortRow;
 use tables::Transfer;
 
+// The shortest stored message.
+const SHORTEST: u32 = 1;
+
 // Each of the sixteen modes is one of 0..3.
 fn modes_fit(modes: &[u8]) -> bool
     ensures { λ r. ⌜ r ≡ modesFit (now (modes .entry)) ⌝ }
 {
     let mut p: usize = 0;
     while p < modes.len() {
-        if 3 < modes[p] {
+        if events::NORMAL < modes[p] {
             return false;
         }
         p = p + 1;
@@ -48,9 +51,9 @@ fn lengths_fit(numbers: &[u32], k: usize, largest: u32, oldest: u32, count: u32)
 {
     let mut i: u32 = 0;
     while i < count {
-        let slot = ((oldest + i) % 8) as usize;
-        let size = ports::number(numbers, k, 5 + slot);
-        if size < 1 {
+        let slot = ((oldest + i) % stores::RING) as usize;
+        let size = ports::number(numbers, k, ports::LENGTHS + slot);
+        if size < SHORTEST {
             return false;
         }
         if largest < size {
@@ -76,7 +79,7 @@ fn port_fits(numbers: &[u32], k: usize, row: PortRow) -> bool
         return false;
     }
     let oldest = ports::number(numbers, k, ports::OLDEST);
-    if 8 <= oldest {
+    if stores::RING <= oldest {
         return false;
     }
     let count = ports::number(numbers, k, ports::COUNT);

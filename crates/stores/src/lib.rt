@@ -5,18 +5,28 @@ ghost use Prim.Native.Nat.{_+_, _%_, _<_, _≤_};
 ghost use lib.ListN.{length, getD, take, drop};
 ghost use Rattle.stores.specs.Ring.{Sized, slots, slotSize, slotOf, pasted, lettered, letterOf, noMessages, appended, oldestOf, dropped, queueOf, layOut};
 
+// A store's slots, the bytes of one, and the bytes of all.
+pub const SLOTS: usize = 8;
+
+pub const SLOT_SIZE: usize = 64;
+
+pub const BLOCK_SIZE: usize = 512;
+
+// The slots again, as the number after which the ring begins anew.
+pub const RING: u32 = 8;
+
 // A message on its way: its bytes, with zeros after them, and its length, at most 64.
 pub struct Letter {
-    pub bytes: [u8; 64],
+    pub bytes: [u8; SLOT_SIZE],
     pub size: u32,
 }
 
 // 01: "Each port keeps up to eight messages with their lengths (a sampling port one)".
 pub struct Store {
     // eight slots of 64 bytes
-    pub bytes: [u8; 512],
+    pub bytes: [u8; BLOCK_SIZE],
     // the length of the message in each slot
-    pub lengths: [u32; 8],
+    pub lengths: [u32; SLOTS],
     // the slot of the oldest message, 0..7
     pub oldest: u32,
     // how many messages are stored, 0..8
@@ -29,7 +39,7 @@ pub fn letter_of(b: &[u8], at: usize, size: u32) -> Letter
     requires { ⌜ at + size ≤ length (now b) ⌝ }
     ensures { λ r. ⌜ r ≡ letterOf (take size (drop at (now (b .entry)))) ⌝ }
 {
-    let mut bytes = [0u8; 64];
+    let mut bytes = [0u8; SLOT_SIZE];
     let n = size as usize;
     let mut i = 0;
     while i < n {
@@ -44,18 +54,18 @@ fn slot(oldest: u32, i: u32) -> u32
     requires { ⌜ i ≤ slots ⌝ }
     ensures { λ r. ⌜ r ≡ (oldest + i) % slots ⌝ }
 {
-    (oldest % 8 + i) % 8
+    (oldest % RING + i) % RING
 }
 
 // The 64 bytes of a letter put into a store's bytes from `first` on, in place.
 // A proof is not told how long the list behind a lent array is, so the lengths are asked for.
-fn put(bytes: &mut [u8; 512], first: usize, letter: &[u8])
+fn put(bytes: &mut [u8; BLOCK_SIZE], first: usize, letter: &[u8])
     requires { ⌜ (length (now bytes) ≡ 512) × (length (now letter) ≡ 64) ⌝ }
     requires { ⌜ first + slotSize ≤ 512 ⌝ }
     ensures { λ _. ⌜ now (bytes .exit) ≡ pasted (now (bytes .entry)) first (now (letter .entry)) ⌝ }
 {
     let mut i = 0;
-    while i < 64 {
+    while i < SLOT_SIZE {
         bytes[first + i] = letter[i];
         i += 1;
     }
@@ -66,8 +76,8 @@ pub fn empty() -> Store
     ensures { λ r. ⌜ r ≡ noMessages ⌝ }
 {
     Store {
-        bytes: [0; 512],
-        lengths: [0; 8],
+        bytes: [0; BLOCK_SIZE],
+        lengths: [0; SLOTS],
         oldest: 0,
         count: 0,
     }
@@ -81,7 +91,7 @@ pub fn append(st: Store, letter: &[u8], size: u32) -> Store
 {
     let at = slot(st.oldest, st.count) as usize;
     let mut next = st;
-    put(&mut next.bytes, 64 * at, letter);
+    put(&mut next.bytes, SLOT_SIZE * at, letter);
     next.lengths[at] = size;
     next.count = st.count + 1;
     next
@@ -95,7 +105,7 @@ pub fn oldest(st: Store) -> Letter
 {
     let at = slot(st.oldest, 0) as usize;
     let size = st.lengths[at];
-    letter_of(&st.bytes, 64 * at, size)
+    letter_of(&st.bytes, SLOT_SIZE * at, size)
 }
 
 // The oldest message taken away: its bytes stay in their slot, which no longer counts.
@@ -114,15 +124,15 @@ pub fn settled(st: Store) -> Store
     requires { ⌜ Sized st ⌝ }
     ensures { λ r. ⌜ r ≡ layOut (queueOf st) ⌝ }
 {
-    let mut bytes = [0u8; 512];
-    let mut lengths = [0u32; 8];
+    let mut bytes = [0u8; BLOCK_SIZE];
+    let mut lengths = [0u32; SLOTS];
     let mut i = 0;
     while i < st.count {
         let at = slot(st.oldest, i) as usize;
         let size = st.lengths[at];
-        let l = letter_of(&st.bytes, 64 * at, size);
+        let l = letter_of(&st.bytes, SLOT_SIZE * at, size);
         let k = i as usize;
-        put(&mut bytes, 64 * k, &l.bytes);
+        put(&mut bytes, SLOT_SIZE * k, &l.bytes);
         lengths[k] = l.size;
         i += 1;
     }

@@ -2,6 +2,8 @@
 ghost use Prim.Native.Nat.{_+_, _-_, _<_, _≤_};
 ghost use mathlib.Core.Path.{_≡_};
 ghost use Rattle.model.specs.Tables.{records, portsEnd, endAt, sourcePort, destinations, destinationPort};
+use super::COUNT_AT;
+use super::ENDS_AT;
 use super::RECORD_SIZE;
 use super::bytes::word16;
 
@@ -10,7 +12,7 @@ pub fn id_at(t: &[u8], r: usize, j: usize) -> u32
     requires { ⌜ (r < records (now t)) × (j ≤ 8) ⌝ }
     ensures { λ id. ⌜ id ≡ endAt (now (t .entry)) r j ⌝ }
 {
-    word16(t, RECORD_SIZE * r + 2 + 2 * j)
+    word16(t, RECORD_SIZE * r + ENDS_AT + 2 * j)
 }
 
 // A port's number is its id less 1; an id of 0, which no channel of accepted tables has, counts as the first.
@@ -35,7 +37,7 @@ pub fn destination_count(t: &[u8], first_channel: usize, c: usize) -> u8
     requires { ⌜ «first_channel» + c < records (now t) ⌝ }
     ensures { λ n. ⌜ n ≡ destinations (now (t .entry)) c ⌝ }
 {
-    t[RECORD_SIZE * (first_channel + c) + 1]
+    t[RECORD_SIZE * (first_channel + c) + COUNT_AT]
 }
 
 // The j-th of the ports that channel c hands messages to, from 0.

@@ -4,7 +4,11 @@ ghost use Prim.Native.Nat.{_<_};
 ghost use mathlib.Core.Path.{_≡_};
 ghost use Rattle.model.specs.Tables.{records, kind, windows, portsEnd, ports, channels, windowPartition, windowLength};
 ghost use Rattle.tables.specs.Runs.{runEnd};
+use super::LENGTH_AT;
+use super::PARTITION_AT;
+use super::PORT_KIND;
 use super::RECORD_SIZE;
+use super::WINDOW_KIND;
 use super::bytes::word16;
 
 pub fn records(t: &[u8]) -> usize
@@ -40,7 +44,7 @@ fn run_end(t: &[u8], wanted: u8, start: usize) -> usize
 pub fn windows(t: &[u8]) -> usize
     ensures { λ n. ⌜ n ≡ windows (now (t .entry)) ⌝ }
 {
-    run_end(t, 1, 0)
+    run_end(t, WINDOW_KIND, 0)
 }
 
 // Where the ports that start at first_port end: the number of the first record past them.
@@ -48,7 +52,7 @@ pub fn ports_end_from(t: &[u8], first_port: usize) -> usize
     requires { ⌜ «first_port» ≡ windows (now t) ⌝ }
     ensures { λ n. ⌜ n ≡ portsEnd (now (t .entry)) ⌝ }
 {
-    run_end(t, 2, first_port)
+    run_end(t, PORT_KIND, first_port)
 }
 
 pub fn ports_end(t: &[u8]) -> usize
@@ -75,7 +79,7 @@ pub fn window_partition(t: &[u8], w: usize) -> u8
     requires { ⌜ w < records (now t) ⌝ }
     ensures { λ p. ⌜ p ≡ windowPartition (now (t .entry)) w ⌝ }
 {
-    t[RECORD_SIZE * w + 1]
+    t[RECORD_SIZE * w + PARTITION_AT]
 }
 
 // The length of window w in ticks.
@@ -83,5 +87,5 @@ pub fn window_length(t: &[u8], w: usize) -> u32
     requires { ⌜ w < records (now t) ⌝ }
     ensures { λ n. ⌜ n ≡ windowLength (now (t .entry)) w ⌝ }
 {
-    word16(t, RECORD_SIZE * w + 2)
+    word16(t, RECORD_SIZE * w + LENGTH_AT)
 }

@@ -33,8 +33,56 @@ pub use rows::row_direction;
 pub use rows::row_largest;
 pub use rows::row_mode;
 
-// A record's size in bytes, and a name's.
+// A record's size in bytes, and its kinds, in byte 0.
 pub const RECORD_SIZE: usize = 48;
+
+pub const WINDOW_KIND: u8 = 1;
+
+pub const PORT_KIND: u8 = 2;
+
+pub const CHANNEL_KIND: u8 = 3;
+
+// Where the fields of a window stand in its record, and how many bytes after them are zero.
+pub const PARTITION_AT: usize = 1;
+
+pub const LENGTH_AT: usize = 2;
+
+pub const WINDOW_END: usize = 4;
+
+pub const WINDOW_REST: usize = 44;
+
+// The same of a port.
+pub const OWNER_AT: usize = 1;
+
+pub const MODE_AT: usize = 2;
+
+pub const DIRECTION_AT: usize = 3;
+
+pub const LARGEST_AT: usize = 4;
+
+pub const DEPTH_AT: usize = 8;
+
+pub const REFRESH_AT: usize = 12;
+
+pub const NAME_AT: usize = 16;
+
+pub const PORT_END: usize = 46;
+
+pub const PORT_REST: usize = 2;
+
+// The same of a channel: its count of destinations, and its ends, the source's id before those of eight destinations.
+pub const COUNT_AT: usize = 1;
+
+pub const ENDS_AT: usize = 2;
+
+pub const CHANNEL_END: usize = 20;
+
+pub const CHANNEL_REST: usize = 28;
+
+// What stands for a partition in a mover window.
+pub const MOVER: u8 = 32;
+
+// A name's size in bytes.
 
 pub const NAME_LENGTH: usize = 30;
 

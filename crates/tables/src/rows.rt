@@ -3,9 +3,15 @@ ghost use Prim.Native.Nat.{_<_};
 ghost use mathlib.Core.Path.{_≡_};
 ghost use Rattle.model.specs.Tables.{records, rowAt};
 ghost use Rattle.tables.specs.Shown.{modeOf, refreshOf, transferOf, decoded};
+use super::DEPTH_AT;
+use super::DIRECTION_AT;
+use super::LARGEST_AT;
+use super::MODE_AT;
+use super::OWNER_AT;
 use super::PortRow;
 use super::QUEUING;
 use super::RECORD_SIZE;
+use super::REFRESH_AT;
 use super::SAMPLING;
 use super::Transfer;
 use super::bytes::word32;
@@ -16,12 +22,16 @@ pub fn port_row(t: &[u8], r: usize) -> PortRow
     ensures { λ row. ⌜ row ≡ decoded (rowAt (now (t .entry)) r) ⌝ }
 {
     let at = RECORD_SIZE * r;
-    let transfer = transfer_of(t[at + 2], word32(t, at + 8), word32(t, at + 12));
+    let transfer = transfer_of(
+        t[at + MODE_AT],
+        word32(t, at + DEPTH_AT),
+        word32(t, at + REFRESH_AT),
+    );
     PortRow {
-        owner: t[at + 1],
+        owner: t[at + OWNER_AT],
         transfer,
-        direction: t[at + 3],
-        largest: word32(t, at + 4),
+        direction: t[at + DIRECTION_AT],
+        largest: word32(t, at + LARGEST_AT),
     }
 }
 
@@ -30,21 +40,21 @@ pub fn row_mode(t: &[u8], r: usize) -> u8
     requires { ⌜ r < records (now t) ⌝ }
     ensures { λ m. ⌜ m ≡ rowAt (now (t .entry)) r .mode ⌝ }
 {
-    t[RECORD_SIZE * r + 2]
+    t[RECORD_SIZE * r + MODE_AT]
 }
 
 pub fn row_direction(t: &[u8], r: usize) -> u8
     requires { ⌜ r < records (now t) ⌝ }
     ensures { λ d. ⌜ d ≡ rowAt (now (t .entry)) r .direction ⌝ }
 {
-    t[RECORD_SIZE * r + 3]
+    t[RECORD_SIZE * r + DIRECTION_AT]
 }
 
 pub fn row_largest(t: &[u8], r: usize) -> u32
     requires { ⌜ r < records (now t) ⌝ }
     ensures { λ n. ⌜ n ≡ rowAt (now (t .entry)) r .largest ⌝ }
 {
-    word32(t, RECORD_SIZE * r + 4)
+    word32(t, RECORD_SIZE * r + LARGEST_AT)
 }
 
 fn transfer_of(mode: u8, depth: u32, refresh: u32) -> Transfer

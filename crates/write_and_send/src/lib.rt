@@ -75,15 +75,15 @@ pub fn put(
     ensures { λ r. ⌜ Serves (now (numbers .entry)) (now (bytes .entry)) (now (numbers .exit)) (now (bytes .exit)) k doer r (put (rowOf row) (now (event .entry)) (callOf f) (portAt (now (numbers .entry)) (now (bytes .entry)) k)) ⌝ }
 {
     if f.size == 0 {
-        return events::refusal(3, doer);
+        return events::refusal(events::INVALID_PARAM, doer);
     }
     if row.largest < f.size {
-        return events::refusal(4, doer);
+        return events::refusal(events::INVALID_CONFIG, doer);
     }
     if !events::directed(f.code, row.direction) {
-        return events::refusal(5, doer);
+        return events::refusal(events::INVALID_MODE, doer);
     }
-    let l = stores::letter_of(event, 16, f.size);
+    let l = stores::letter_of(event, events::BODY_AT, f.size);
     store(numbers, bytes, k, row, &l.bytes, l.size);
     events::done(doer)
 }
