@@ -4,26 +4,27 @@ use Prim.Native.Nat.{ℕ, _+_, _-_, _*_, _≤_, _<_}
 use mathlib.Core.Path.{_≡_, sym, _∙_, ap}
 use mathlib.Core.Bool.{Bool, true, false}
 use native.Mathlib.Omega.{arith}
+use lib.Dec.{eqb}
 use borrow.Author.Tests.{eq-eqb, ne-eqb}
-use Rattle.model.specs.Words.{byte, first}
-use Rattle.model.specs.Tables.{Tables, windows, ports, rowAt, sameName}
+use Rattle.model.specs.Words.{first}
+use Rattle.model.specs.Tables.{Tables, windows, ports, row, sameName}
 use Rattle.model.specs.Events.{Event}
 use Rattle.model.specs.Services.{isNamed, lookUp}
 use Rattle.model.proofs.Searches.{first-more, first-stop, first-end}
 
 -- the tests of one row, in their order
 module _ (t : Tables) (p mode : ℕ) (e : Event) (k : ℕ) where
-  pub not-owner : (byte t (48 * (windows t + k) + 1) ≡ p → ⊥) → isNamed t p mode e k ≡ false
-  unfolding isNamed rowAt
-  not-owner h = rw (ne-eqb (byte t (48 * (windows t + k) + 1)) p h)
+  pub not-owner : (row t k .owner ≡ p → ⊥) → isNamed t p mode e k ≡ false
+  unfolding isNamed
+  not-owner h = rw (ne-eqb (row t k .owner) p h)
 
-  pub not-mode : byte t (48 * (windows t + k) + 1) ≡ p → (byte t (48 * (windows t + k) + 2) ≡ mode → ⊥) → isNamed t p mode e k ≡ false
-  unfolding isNamed rowAt
-  not-mode o h = rw (eq-eqb (byte t (48 * (windows t + k) + 1)) p o, ne-eqb (byte t (48 * (windows t + k) + 2)) mode h)
+  pub not-mode : row t k .owner ≡ p → eqb (row t k .mode) mode ≡ false → isNamed t p mode e k ≡ false
+  unfolding isNamed
+  not-mode o h = rw (eq-eqb (row t k .owner) p o, h)
 
-  pub by-name : byte t (48 * (windows t + k) + 1) ≡ p → byte t (48 * (windows t + k) + 2) ≡ mode → isNamed t p mode e k ≡ sameName t (48 * (windows t + k) + 16) e 16
-  unfolding isNamed rowAt
-  by-name o m = rw (eq-eqb (byte t (48 * (windows t + k) + 1)) p o, eq-eqb (byte t (48 * (windows t + k) + 2)) mode m)
+  pub by-name : row t k .owner ≡ p → eqb (row t k .mode) mode ≡ true → isNamed t p mode e k ≡ sameName t (48 * (windows t + k) + 16) e 16
+  unfolding isNamed
+  by-name o m = rw (eq-eqb (row t k .owner) p o, m)
 
 -- the search, where it begins
 pub whole : (t : Tables) (p mode : ℕ) (e : Event) → lookUp t p mode e ≡ first (isNamed t p mode e) (ports t - 0) 0

@@ -5,7 +5,6 @@ use Prim.Native.Nat.{ℕ, _≤_, _<_}
 use mathlib.Core.Path.{_≡_, refl, sym, _∙_, ap}
 use mathlib.Core.Bool.{Bool, true, false, _||_}
 use mathlib.Core.List.{List, _∷_}
-use mathlib.Core.Logic.{⊎-elim}
 use native.Mathlib.Omega.{arith}
 use lib.Dec.{eqb, eqb·suc-zero}
 use lib.ListN.{length, set}
@@ -18,7 +17,6 @@ use Rattle.model.specs.Services.{stored, arrived}
 use Rattle.model.proofs.Tests.{both-right}
 use Rattle.model.specs.State.{fits}
 use Rattle.model.specs.Ranged.{PortRanged}
-use Rattle.model.specs.Ranged.{RowRanges}
 use Rattle.tables.specs.Shown.{rowOf}
 use Rattle.tables.specs.declared.PortRow.{PortRow}
 use Rattle.ports.specs.Held
@@ -28,10 +26,6 @@ use Rattle.service_contracts.specs.declared.Layout.{Layout}
 use Rattle.service_contracts.specs.Did
 
 -- ---- one destination
-
--- a row's mode as a bound, which arithmetic can use
-pub mode-bit : (row : PortRow) → RowRanges (rowOf row) → rowOf row .mode ≤ 1
-mode-bit row r = ⊎-elim (λ (e : rowOf row .mode ≡ 0). omega arith) (λ (e : rowOf row .mode ≡ 1). omega arith) (r .moded)
 
 -- what arrives, by the destination's mark and mode
 module _ (time : ℕ) (r : Row) (m : Message) (d : Port) where

@@ -13,6 +13,7 @@ ghost use Rattle.moves.specs.Moved.{Arrived, Carried, Delivered, Moved};
 use events::Answer;
 use service_contracts::Layout;
 use tables::PortRow;
+use tables::Transfer;
 
 // One destination: nothing if it is not created; else it is stored or lost, and a sample has arrived now.
 fn arrive(
@@ -34,11 +35,13 @@ fn arrive(
     }
     write_and_send::store(numbers, bytes, k, row, letter, size);
     let transfer = row.transfer;
-    // the arrival time of a queuing port is never touched
-    if tables::mode(transfer) == 1 {
-        return;
+    match transfer {
+        Transfer::Sampling(_) => {
+            ports::set_number(numbers, k, ports::ARRIVAL, time);
+        }
+        // the arrival time of a queuing port is never touched
+        Transfer::Queuing(_) => {}
     }
-    ports::set_number(numbers, k, ports::ARRIVAL, time);
 }
 
 // Destination j of channel c, with its row from the tables.

@@ -8,8 +8,8 @@ use native.Mathlib.Omega.{arith}
 use lib.Dec.{eqb}
 use lib.ListN.{getD}
 use borrow.Author.Tests.{le-leb, lt-leb, eq-eqb, ne-eqb, not-true, not-false}
-use Rattle.model.specs.Words.{byte, between}
-use Rattle.model.specs.Tables.{Tables, windows, rowAt, row}
+use Rattle.model.specs.Words.{between}
+use Rattle.model.specs.Tables.{Tables, row}
 use Rattle.model.specs.Tables.{ports as portCount}
 use Rattle.model.specs.State.{Clock, State, port, isCreated}
 use Rattle.model.specs.Events.{Event, Call, need}
@@ -66,20 +66,18 @@ module _ (t : Tables) (numbers : List ℕ) (p : ℕ) (f : Call) where
   own-past l h = rw (le-leb 1 (f .id) l, lt-leb (f .id) (portCount t) h)
 
   module _ (l : 1 ≤ f .id) (h : f .id ≤ portCount t) where
-    pub own-other : (byte t (48 * (windows t + (f .id - 1)) + 1) ≡ p → ⊥) → ownAt t numbers p f ≡ false
-    unfolding ownAt rowAt
-    own-other o = rw (le-leb 1 (f .id) l, le-leb (f .id) (portCount t) h, ne-eqb (byte t (48 * (windows t + (f .id - 1)) + 1)) p o)
+    pub own-other : (row t (f .id - 1) .owner ≡ p → ⊥) → ownAt t numbers p f ≡ false
+    unfolding ownAt
+    own-other o = rw (le-leb 1 (f .id) l, le-leb (f .id) (portCount t) h, ne-eqb (row t (f .id - 1) .owner) p o)
 
-    module _ (o : byte t (48 * (windows t + (f .id - 1)) + 1) ≡ p) where
-      pub own-mode : (byte t (48 * (windows t + (f .id - 1)) + 2) ≡ need (f .code) .mode → ⊥) → ownAt t numbers p f ≡ false
-      unfolding ownAt rowAt
-      own-mode m =
-          rw (le-leb 1 (f .id) l, le-leb (f .id) (portCount t) h, eq-eqb (byte t (48 * (windows t + (f .id - 1)) + 1)) p o, ne-eqb (byte t (48 * (windows t + (f .id - 1)) + 2)) (need (f .code) .mode) m)
+    module _ (o : row t (f .id - 1) .owner ≡ p) where
+      pub own-mode : eqb (row t (f .id - 1) .mode) (need (f .code) .mode) ≡ false → ownAt t numbers p f ≡ false
+      unfolding ownAt
+      own-mode m = rw (le-leb 1 (f .id) l, le-leb (f .id) (portCount t) h, eq-eqb (row t (f .id - 1) .owner) p o, m)
 
-      pub own-mark : byte t (48 * (windows t + (f .id - 1)) + 2) ≡ need (f .code) .mode → ownAt t numbers p f ≡ eqb (getD (rowOf numbers (f .id - 1)) 0 0) 1
-      unfolding ownAt rowAt
-      own-mark m =
-          rw (le-leb 1 (f .id) l, le-leb (f .id) (portCount t) h, eq-eqb (byte t (48 * (windows t + (f .id - 1)) + 1)) p o, eq-eqb (byte t (48 * (windows t + (f .id - 1)) + 2)) (need (f .code) .mode) m)
+      pub own-mark : eqb (row t (f .id - 1) .mode) (need (f .code) .mode) ≡ true → ownAt t numbers p f ≡ eqb (getD (rowOf numbers (f .id - 1)) 0 0) 1
+      unfolding ownAt
+      own-mark m = rw (le-leb 1 (f .id) l, le-leb (f .id) (portCount t) h, eq-eqb (row t (f .id - 1) .owner) p o, m)
 
 -- that test as the code makes it: x is what it gave
 module _ (t : Tables) (numbers : List ℕ) (p : ℕ) (f : Call) {x : Bool} (tested : x ≡ ownAt t numbers p f) where

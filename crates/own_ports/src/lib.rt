@@ -29,12 +29,13 @@ fn own(t: &[u8], lay: Layout, numbers: &[u32], p: u8, f: Fields) -> bool
         return false;
     }
     let k = id - 1;
-    let at = 48 * (lay.windows + k);
-    if t[at + 1] != p {
+    let row = tables::port_row(t, lay.windows + k);
+    if row.owner != p {
         return false;
     }
     let needed = events::need(f.code);
-    if t[at + 2] != needed.mode {
+    let transfer = row.transfer;
+    if !tables::is_mode(transfer, needed.mode) {
         return false;
     }
     ports::number(numbers, k, ports::CREATED) == 1

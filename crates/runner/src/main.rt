@@ -2,10 +2,19 @@
 // reading and writing stand here: the kernel answers, and the crate `runner_text` has the text.
 ghost use Prim.Native.Nat.{_+_, _*_, _^_, _≤_, _<_};
 ghost use lib.ListN.{length};
+use events::EVENT_SIZE;
 use libc::STDIN_FILENO;
 use libc::STDOUT_FILENO;
 use loader::Verdict;
+use runner_text::MOST_TABLES;
 use states::State;
+
+// At most so many events are held at a time, and so many bytes of events and of answers; the text of their lines is no longer than this.
+const TURN: u64 = 400;
+
+const TURN_SIZE: usize = 32_000;
+
+const TURN_TEXT: usize = 127_200;
 
 // What a turn leaves: the state, and whether there may be more events.
 struct Turned {
@@ -38,24 +47,44 @@ fn rest(fd: i32) -> usize
     length
 }
 
-// Reads the start of tables.bin, and answers the file's length, or 0 where it is missing.
+// Where a file ends because it can no longer be read, as a folder cannot from its start, standard error is told why. A file that ended is
+// read once more for it: the kit's readers do not tell the one from the other.
+fn tell_unread(fd: i32) {
+    let mut byte = [0u8; 1];
+    if libc::read(fd, &mut byte) < 0 {
+        os::fail(b"runner: tables.bin");
+    }
+}
+
+// Reads the start of tables.bin, and answers the file's length, or 0 where it cannot be opened; standard error is told why.
 fn read_tables(t: &mut [u8]) -> usize
     requires { ⌜ length (now t) ≤ 7728 ⌝ }
 {
     let fd = os::open_read(b"tables.bin");
     if fd < 0 {
+        os::fail(b"runner: tables.bin");
         return 0;
     }
     let start = io::read_full(fd, t);
     let length = start + rest(fd);
+    tell_unread(fd);
     libc::close(fd);
     length
+}
+
+// Writes to standard output; where that fails, standard error is told why.
+fn print(text: &[u8]) -> bool {
+    let is_written = io::write_all(STDOUT_FILENO, text);
+    if !is_written {
+        os::fail(b"runner: standard output");
+    }
+    is_written
 }
 
 fn print_refusal(number: u8, place: usize) {
     let mut text = [0u8; 60];
     let end = runner_text::tables_refused(number, place, &mut text);
-    io::write_all(STDOUT_FILENO, &text[..end]);
+    print(&text[..end]);
 }
 
 // The line that a broken tail is given.
@@ -63,7 +92,7 @@ fn print_torn(tail: usize) {
     if tail > 0 {
         let mut text = [0u8; 18];
         let end = runner_text::events_refused(0, &mut text);
-        io::write_all(STDOUT_FILENO, &text[..end]);
+        print(&text[..end]);
     }
 }
 
@@ -71,11 +100,11 @@ fn print_torn(tail: usize) {
 fn answer_events(t: &[u8], state: State, first: u64, events: &[u8]) -> Turned
     requires { ⌜ (length (now events) ≤ 32000) × (first + 400 ≤ 2 ^ 64) ⌝ }
 {
-    let mut answers = [0u8; 32_000];
+    let mut answers = [0u8; TURN_SIZE];
     let ran = kernel::run(t, state, events, &mut answers);
-    let mut text = [0u8; 127_200];
+    let mut text = [0u8; TURN_TEXT];
     let end = runner_text::lines(first, events, &answers, &mut text);
-    let is_written = io::write_all(STDOUT_FILENO, &text[..end]);
+    let is_written = print(&text[..end]);
     let after = ran.state;
     Turned {
         state: after,
@@ -87,16 +116,16 @@ fn answer_events(t: &[u8], state: State, first: u64, events: &[u8]) -> Turned
 fn take_turn(t: &[u8], state: State, turns: u64) -> Turned
     requires { ⌜ turns < 2 ^ 54 ⌝ }
 {
-    let mut events = [0u8; 32_000];
+    let mut events = [0u8; TURN_SIZE];
     let got = io::read_full(STDIN_FILENO, &mut events);
     let parts = runner_text::split(got);
-    let end = 80 * parts.whole;
-    let turned = answer_events(t, state, 400 * turns, &events[..end]);
+    let end = EVENT_SIZE * parts.whole;
+    let turned = answer_events(t, state, TURN * turns, &events[..end]);
     print_torn(parts.tail);
     let after = turned.state;
     Turned {
         state: after,
-        more: turned.more && got == 32_000,
+        more: turned.more && got == TURN_SIZE,
     }
 }
 
@@ -124,7 +153,7 @@ fn run_tables(t: &[u8]) {
 }
 
 fn main() {
-    let mut t = [0u8; 7_728];
+    let mut t = [0u8; MOST_TABLES];
     let size = runner_text::loaded_length(read_tables(&mut t));
     run_tables(&t[..size]);
 }

@@ -4,16 +4,15 @@ mod digits;
 mod records;
 mod refusals;
 
+use events::EVENT_SIZE;
 pub use records::line;
 pub use records::lines;
 pub use refusals::events_refused;
 pub use refusals::tables_refused;
+use tables::RECORD_SIZE;
 ghost use Prim.Native.Nat.{_/_, _%_, _≤_};
 ghost use mathlib.Core.Path.{_≡_};
 ghost use Rattle.runner_text.specs.Text.{loadedLength};
-
-// An event's size, and an answer's.
-pub const EVENT_SIZE: usize = 80;
 
 // Of a longer tables.bin only so many bytes, 161 records, and the length are used.
 pub const MOST_TABLES: usize = 7_728;
@@ -41,7 +40,7 @@ pub fn loaded_length(length: usize) -> usize
     if length <= MOST_TABLES {
         return length;
     }
-    if length % 48 == 0 {
+    if length % RECORD_SIZE == 0 {
         return MOST_TABLES;
     }
     0

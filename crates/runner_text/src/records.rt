@@ -7,6 +7,10 @@ ghost use Rattle.runner_text.specs.Wrote.{Wrote};
 use super::digits::field;
 use super::digits::hex;
 use super::digits::letter;
+use events::EVENT_SIZE;
+use events::NO_ERROR;
+use events::READ_SAMPLING_MESSAGE;
+use events::RECEIVE_QUEUING_MESSAGE;
 use tables::word16;
 use tables::word32;
 
@@ -57,13 +61,13 @@ fn shows_message(event: &[u8], answer: &[u8]) -> bool
     requires { ⌜ (length (now event) ≡ 80) × (length (now answer) ≡ 80) ⌝ }
     ensures { λ r. ⌜ r ≡ showsMessage (now (event .entry)) (now (answer .entry)) ⌝ }
 {
-    if answer[0] != 0 {
+    if answer[0] != NO_ERROR {
         return false;
     }
-    if event[0] == 3 {
+    if event[0] == READ_SAMPLING_MESSAGE {
         return true;
     }
-    event[0] == 8
+    event[0] == RECEIVE_QUEUING_MESSAGE
 }
 
 // The message bytes as the reader hands them out, else a dash.
@@ -94,8 +98,8 @@ fn line_at(first: u64, events: &[u8], answers: &[u8], i: usize, at: usize, out: 
     requires { ⌜ (80 * i + 80 ≤ length (now events)) × (80 * i + 80 ≤ length (now answers)) × (at + 318 ≤ length (now out)) × (first + i + 1 ≤ 2 ^ 64) ⌝ }
     ensures { λ r. ⌜ Wrote 318 (lineOf (first + i) (take 80 (drop (80 * i) (now (events .entry)))) (take 80 (drop (80 * i) (now (answers .entry))))) (now (out .entry)) at r (now (out .exit)) ⌝ }
 {
-    let start = 80 * i;
-    let end = start + 80;
+    let start = EVENT_SIZE * i;
+    let end = start + EVENT_SIZE;
     line(
         first + i as u64,
         &events[start..end],
@@ -110,7 +114,7 @@ pub fn lines(first: u64, events: &[u8], answers: &[u8], out: &mut [u8]) -> usize
     requires { ⌜ (length (now events) ≤ length (now answers)) × (318 * (length (now events) / 80) ≤ length (now out)) × (first + length (now events) / 80 ≤ 2 ^ 64) ⌝ }
     ensures { λ r. ⌜ Wrote (318 * (length (now (events .entry)) / 80)) (linesOf first (now (events .entry)) (now (answers .entry)) (length (now (events .entry)) / 80)) (now (out .entry)) 0 r (now (out .exit)) ⌝ }
 {
-    let n = events.len() / 80;
+    let n = events.len() / EVENT_SIZE;
     let mut at: usize = 0;
     let mut i: usize = 0;
     while i < n {

@@ -1,18 +1,17 @@
 -- Lent arrays that hold the ports of accepted tables: when they do, where the rows lie, each port with its row, and the state that the arrays show.
 -- Assumes nothing.
-use Prim.Native.Nat.{ℕ, _<_}
+use Prim.Native.Nat.{ℕ, _+_, _<_}
 use mathlib.Core.Path.{_≡_, refl, sym, _∙_, ap, subst}
 use mathlib.Core.Bool.{true}
 use mathlib.Core.List.{List}
 use native.Mathlib.Omega.{arith}
 use lib.ListN.{length}
-use Rattle.model.specs.Tables.{Tables, row}
+use Rattle.model.specs.Tables.{Tables, rowAt, row}
 use Rattle.model.specs.Tables.{ports as portCount}
 use Rattle.model.specs.Load.{accepts}
 use Rattle.model.specs.State.{Clock, Port, port, withPort}
 use Rattle.model.proofs.Accepted.{Accepted, accepted}
-use Rattle.model.specs.Ranged.{RowRanges}
-use Rattle.model.specs.Ranged.{PortRanged, Ranged}
+use Rattle.model.specs.Ranged.{RowRanges, PortRanged, Ranged}
 use Rattle.tables.specs.Shown.{decoded}
 use Rattle.tables.specs.Shown as Shown
 use Rattle.tables.specs.declared.PortRow.{PortRow}
@@ -51,11 +50,15 @@ held-of {t} {numbers = numbers} {bytes = bytes} ok laid rows blocks r =
 pub rows-of : {t : Tables} {lay : Layout} {numbers bytes : List ℕ} → Held t lay numbers bytes → Rows t lay
 rows-of {t} h =
     let a = accepted t (h .accepted) in
-    record { laid = h .laid; inside = omega (arith, a .portsAfter, a .channelsAfter); few = a .fewPorts }
+    record { laid = h .laid; inside = omega (arith, a .portsAfter, a .channelsAfter); few = a .fewPorts; ranges = a .rows }
 
 -- the row of port k, decoded, shows the model's row; port k fits it, and so does its store
 pub row-read : (t : Tables) → Accepted t → (k : ℕ) → k < portCount t → {r : PortRow} → r ≡ decoded (row t k) → Shown.rowOf r ≡ row t k
 row-read t a k h e = ap Shown.rowOf e ∙ Decoded.shown (row t k) (a .rows k h)
+
+-- the same of the row that the code reads by its layout
+pub row-at : {t : Tables} {lay : Layout} → Rows t lay → (k : ℕ) → k < portCount t → {r : PortRow} → r ≡ decoded (rowAt t (lay .windows + k)) → Shown.rowOf r ≡ row t k
+row-at {t} rows k h e = ap Shown.rowOf (rw (rows .laid .windowed) at e) ∙ Decoded.shown (row t k) (rows .ranges k h)
 
 pub fits-of : {t : Tables} {lay : Layout} {numbers bytes : List ℕ} → Held t lay numbers bytes → (k : ℕ) → k < portCount t → (r : PortRow) → r ≡ decoded (row t k) → Fits numbers bytes k r
 fits-of {t} {lay} {numbers} {bytes} h k l r e =

@@ -26,7 +26,7 @@ pub use layout::window_length;
 pub use layout::window_partition;
 pub use layout::windows;
 pub use names::same_name;
-pub use rows::mode;
+pub use rows::is_mode;
 pub use rows::port_row;
 pub use rows::refresh;
 pub use rows::row_direction;

@@ -1,6 +1,7 @@
 // Port rows, decoded from their records where they are wanted, and fields of rows as they stand.
 ghost use Prim.Native.Nat.{_<_};
 ghost use mathlib.Core.Path.{_≡_};
+ghost use lib.Dec.{eqb};
 ghost use Rattle.model.specs.Tables.{records, rowAt};
 ghost use Rattle.tables.specs.Shown.{modeOf, refreshOf, transferOf, decoded};
 use super::DEPTH_AT;
@@ -67,13 +68,13 @@ fn transfer_of(mode: u8, depth: u32, refresh: u32) -> Transfer
     }
 }
 
-// 0 sampling, 1 queuing.
-pub fn mode(transfer: Transfer) -> u8
-    ensures { λ r. ⌜ r ≡ modeOf transfer ⌝ }
+// The port is of that mode, 0 sampling or 1 queuing.
+pub fn is_mode(transfer: Transfer, mode: u8) -> bool
+    ensures { λ r. ⌜ r ≡ eqb (modeOf transfer) mode ⌝ }
 {
     match transfer {
-        Transfer::Sampling(_) => SAMPLING,
-        Transfer::Queuing(_) => QUEUING,
+        Transfer::Sampling(_) => SAMPLING == mode,
+        Transfer::Queuing(_) => QUEUING == mode,
     }
 }
 

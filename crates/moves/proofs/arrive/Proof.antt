@@ -1,14 +1,14 @@
--- `moves::arrive` meets its contract, by the destination's mark and then its mode. Assumes nothing.
-use mathlib.Core.Path.{_≡_, sym}
+-- `moves::arrive` meets its contract, by the destination's mark and then the case of its row. Assumes nothing.
+use mathlib.Core.Path.{_≡_, sym, ap}
 use native.Mathlib.Omega.{arith}
 use Rattle.model.specs.State.{withQueue}
 use Rattle.model.specs.Services.{stored}
-use Rattle.tables.specs.Shown.{rowOf}
+use Rattle.tables.specs.Shown.{modeOf, rowOf}
 use Rattle.stores.specs.Ring.{written, lettered}
 use Rattle.ports.specs.Held.{portAt}
 use Rattle.ports.proofs.Ports.{put-is, put-kept}
 use Rattle.service_contracts.proofs.Contents.{created-is}
-use Rattle.moves.proofs.Laws.{mode-bit, arrived-uncreated, arrived-queuing, arrived-sampling, put-stamped}
+use Rattle.moves.proofs.Laws.{arrived-uncreated, arrived-queuing, arrived-sampling, put-stamped}
 use borrow.Author.Needs.{needs}
 use Rattle.moves.proofs.arrive.Statement.{statement}
 use Rattle.moves.proofs.arrive.Tie as tie
@@ -29,8 +29,14 @@ returns c =
 store-requires : tie.Need-store-requires
 store-requires c κs = search needs
 
-mode-requires : tie.Need-mode-requires
-mode-requires c κs = search needs
+enum-told : tie.Need-enum-told
+enum-told c = search needs
+
+set-number-requires : tie.Need-set-number-requires
+set-number-requires c κs = search needs
+
+enum-told-2 : tie.Need-enum-told-2
+enum-told-2 c = search needs
 
 same-length-2 : tie.Need-same-length-2
 same-length-2 c = search needs
@@ -40,14 +46,11 @@ same-length-3 c = search needs
 
 returns-2 : tie.Need-returns-2
 returns-2 c =
-    let a = c .before .before .before .before .before .before .before .before .before .before .before .before .before .before .before .args in
+    let a = c .before .before .before .before .before .before .before .before .before .before .before .before .before .before .before .before .before .before .before .args in
     let q = portAt (a .numbers .now) (a .bytes .now) (a .k) in
-    let made : q .created ≡ 1 = omega (arith, c .before .before .before .before .before .before .before .before .before .if1 .left, c .before .before .before .before .before .before .before .before .before .before .number .ensures, created-is (a .numbers .now) (a .bytes .now) (a .k), c .before .before .before .before .before .before .before .before .before .before .before .before .before .before .before .pre .0 .port .marked) in
-    let queuing : rowOf (a .row) .mode ≡ 1 = omega (arith, c .if2 .taken, c .before .mode .ensures) in
-    put-is {q = withQueue q (stored (rowOf (a .row)) (q .queue) (written (lettered (a .letter .now) (a .size))))} (c .before .before .before .before .before .before .store .ensures) (sym (arrived-queuing (a .time) (rowOf (a .row)) (written (lettered (a .letter .now) (a .size))) q made queuing))
-
-set-number-requires : tie.Need-set-number-requires
-set-number-requires c κs = search needs
+    let made : q .created ≡ 1 = omega (arith, c .before .before .before .before .before .before .before .before .before .before .before .before .before .if1 .left, c .before .before .before .before .before .before .before .before .before .before .before .before .before .before .number .ensures, created-is (a .numbers .now) (a .bytes .now) (a .k), c .before .before .before .before .before .before .before .before .before .before .before .before .before .before .before .before .before .before .before .pre .0 .port .marked) in
+    let sampling : rowOf (a .row) .mode ≡ 0 = ap modeOf (c .before .before .before .before .enum-told .given .1) in
+    put-is (put-stamped {q = withQueue q (stored (rowOf (a .row)) (q .queue) (written (lettered (a .letter .now) (a .size))))} (c .before .before .before .before .before .before .before .before .before .before .store .ensures) (c .before .before .set-number .ensures)) (sym (arrived-sampling (a .time) (rowOf (a .row)) (written (lettered (a .letter .now) (a .size))) q made sampling))
 
 same-length-4 : tie.Need-same-length-4
 same-length-4 c = search needs
@@ -57,11 +60,11 @@ same-length-5 c = search needs
 
 returns-3 : tie.Need-returns-3
 returns-3 c =
-    let a = c .before .before .before .before .before .before .before .before .before .before .before .before .before .before .before .before .before .before .before .args in
+    let a = c .before .before .before .before .before .before .before .before .before .before .before .before .before .before .before .args in
     let q = portAt (a .numbers .now) (a .bytes .now) (a .k) in
-    let made : q .created ≡ 1 = omega (arith, c .before .before .before .before .before .before .before .before .before .before .before .before .before .if1 .left, c .before .before .before .before .before .before .before .before .before .before .before .before .before .before .number .ensures, created-is (a .numbers .now) (a .bytes .now) (a .k), c .before .before .before .before .before .before .before .before .before .before .before .before .before .before .before .before .before .before .before .pre .0 .port .marked) in
-    let sampling : rowOf (a .row) .mode ≡ 0 = omega (arith, c .before .before .before .before .if2 .left, c .before .before .before .before .before .mode .ensures, mode-bit (a .row) (c .before .before .before .before .before .before .before .before .before .before .before .before .before .before .before .before .before .before .before .pre .0 .ranges)) in
-    put-is (put-stamped {q = withQueue q (stored (rowOf (a .row)) (q .queue) (written (lettered (a .letter .now) (a .size))))} (c .before .before .before .before .before .before .before .before .before .before .store .ensures) (c .before .before .set-number .ensures)) (sym (arrived-sampling (a .time) (rowOf (a .row)) (written (lettered (a .letter .now) (a .size))) q made sampling))
+    let made : q .created ≡ 1 = omega (arith, c .before .before .before .before .before .before .before .before .before .if1 .left, c .before .before .before .before .before .before .before .before .before .before .number .ensures, created-is (a .numbers .now) (a .bytes .now) (a .k), c .before .before .before .before .before .before .before .before .before .before .before .before .before .before .before .pre .0 .port .marked) in
+    let queuing : rowOf (a .row) .mode ≡ 1 = ap modeOf (c .enum-told2 .given .1) in
+    put-is {q = withQueue q (stored (rowOf (a .row)) (q .queue) (written (lettered (a .letter .now) (a .size))))} (c .before .before .before .before .before .before .store .ensures) (sym (arrived-queuing (a .time) (rowOf (a .row)) (written (lettered (a .letter .now) (a .size))) q made queuing))
 
 pub arrive-spec : {M : Type 1} → statement M
 arrive-spec =
@@ -71,11 +74,12 @@ arrive-spec =
     same-length
     returns
     store-requires
-    mode-requires
+    enum-told
+    set-number-requires
+    enum-told-2
     same-length-2
     same-length-3
     returns-2
-    set-number-requires
     same-length-4
     same-length-5
     returns-3)

@@ -31,11 +31,11 @@ lines-requires c κs = search needs
 array-share-prefix-text : tie.Need-array-share-prefix-text
 array-share-prefix-text c = let l = c .before .lines in omega (arith, l .ensures .within, l .ensures .kept, length-replicate {A = ℕ} 127200 0, c .before .before .before .before .before .before .before .before .before .pre .0)
 
-slice-aggregate-write-all : tie.Need-slice-aggregate-write-all
-slice-aggregate-write-all c = sym (length-take-le _ _ (let l = c .before .before .lines in omega (arith, l .ensures .within, l .ensures .kept, length-replicate {A = ℕ} 127200 0, c .before .before .before .before .before .before .before .before .before .before .pre .0)))
+slice-aggregate-print : tie.Need-slice-aggregate-print
+slice-aggregate-print c = sym (length-take-le _ _ (let l = c .before .before .lines in omega (arith, l .ensures .within, l .ensures .kept, length-replicate {A = ℕ} 127200 0, c .before .before .before .before .before .before .before .before .before .before .pre .0)))
 
-write-all-requires : tie.Need-write-all-requires
-write-all-requires c κs = search needs
+print-requires : tie.Need-print-requires
+print-requires c κs = search needs
 
 returns : tie.Need-returns
 returns c = search needs
@@ -50,6 +50,6 @@ answer-events-spec =
     slice-aggregate-lines-2
     lines-requires
     array-share-prefix-text
-    slice-aggregate-write-all
-    write-all-requires
+    slice-aggregate-print
+    print-requires
     returns)

@@ -18,11 +18,11 @@ tables-refused-requires c κs = search needs
 array-share-prefix-text : tie.Need-array-share-prefix-text
 array-share-prefix-text c = search needs
 
-slice-aggregate-write-all : tie.Need-slice-aggregate-write-all
-slice-aggregate-write-all c = sym (length-take-le _ _ (search needs))
+slice-aggregate-print : tie.Need-slice-aggregate-print
+slice-aggregate-print c = sym (length-take-le _ _ (search needs))
 
-write-all-requires : tie.Need-write-all-requires
-write-all-requires c κs = search needs
+print-requires : tie.Need-print-requires
+print-requires c κs = search needs
 
 returns : tie.Need-returns
 returns c = search needs
@@ -34,6 +34,6 @@ print-refusal-spec =
     slice-aggregate-tables-refused
     tables-refused-requires
     array-share-prefix-text
-    slice-aggregate-write-all
-    write-all-requires
+    slice-aggregate-print
+    print-requires
     returns)

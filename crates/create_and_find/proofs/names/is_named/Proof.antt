@@ -1,41 +1,47 @@
 -- `create_and_find::names::is_named` meets its contract: the tests in their order. Assumes nothing.
-use mathlib.Core.Path.{sym, _∙_}
-use Rattle.create_and_find.proofs.LookUp.{not-owner, not-mode, by-name}
+use mathlib.Core.Path.{_≡_, sym, _∙_, ap, subst}
+use lib.Dec.{eqb}
 use borrow.Author.Needs.{needs}
+use borrow.Author.Tests.{not-true, not-false}
+use Rattle.service_contracts.proofs.Holding.{row-at}
+use Rattle.create_and_find.proofs.LookUp.{not-owner, not-mode, by-name}
 use Rattle.create_and_find.proofs.names.is_named.Statement.{statement}
 use Rattle.create_and_find.proofs.names.is_named.Tie as tie
 
-add-at : tie.Need-add-at
-add-at c = search needs
+add-r : tie.Need-add-r
+add-r c = search needs
 
-mul-at : tie.Need-mul-at
-mul-at c = search needs
-
-add-if1 : tie.Need-add-if1
-add-if1 c = search needs
-
-shared-slice-read-if1 : tie.Need-shared-slice-read-if1
-shared-slice-read-if1 c = search needs
+port-row-requires : tie.Need-port-row-requires
+port-row-requires c κs = search needs
 
 returns : tie.Need-returns
 returns c =
-    let a = c .before .before .before .before .before .args in
-    let t = a .t .now in
-    let w = c .before .before .before .before .before .pre .0 .laid .windowed in
-    sym (not-owner t (a .p) (a .mode) (a .event .now) (a .k) (rw w at (c .if1 .taken)))
+    let s = c .before .before .before .before .before .before in
+    let t = s .args .t .now in
+    let p = s .args .p in
+    let m = s .args .mode in
+    let e = s .args .event .now in
+    let k = s .args .k in
+    let shows = row-at (s .pre .0) k (s .pre .1 .1) (c .before .before .port-row .ensures) in
+    sym (not-owner t p m e k (λ q. c .if1 .taken (ap (λ x. x .owner) shows ∙ q)))
 
-add-if2 : tie.Need-add-if2
-add-if2 c = search needs
-
-shared-slice-read-if2 : tie.Need-shared-slice-read-if2
-shared-slice-read-if2 c = search needs
+is-mode-requires : tie.Need-is-mode-requires
+is-mode-requires c κs = search needs
 
 returns-2 : tie.Need-returns-2
 returns-2 c =
-    let a = c .before .before .before .before .before .before .before .args in
-    let t = a .t .now in
-    let w = c .before .before .before .before .before .before .before .pre .0 .laid .windowed in
-    sym (not-mode t (a .p) (a .mode) (a .event .now) (a .k) (rw w at (c .before .before .if1 .left)) (rw w at (c .if2 .taken)))
+    let s = c .before .before .before .before .before .before .before .before in
+    let t = s .args .t .now in
+    let p = s .args .p in
+    let m = s .args .mode in
+    let e = s .args .event .now in
+    let k = s .args .k in
+    let shows = row-at (s .pre .0) k (s .pre .1 .1) (c .before .before .before .before .port-row .ensures) in
+    let compared = c .before .is-mode .ensures ∙ ap (λ x. eqb (x .mode) m) shows in
+    sym (not-mode t p m e k (sym (ap (λ x. x .owner) shows) ∙ c .before .before .if1 .left) (sym compared ∙ not-true _ (c .if2 .taken)))
+
+mul-same-name : tie.Need-mul-same-name
+mul-same-name c = search needs
 
 add-same-name : tie.Need-add-same-name
 add-same-name c = search needs
@@ -45,23 +51,27 @@ same-name-requires c κs = search needs
 
 returns-3 : tie.Need-returns-3
 returns-3 c =
-    let a = c .before .before .before .before .before .before .before .before .args in
-    let t = a .t .now in
-    let w = c .before .before .before .before .before .before .before .before .pre .0 .laid .windowed in
-    c .same-name .ensures ∙ (rw w (sym (by-name t (a .p) (a .mode) (a .event .now) (a .k) (rw w at (c .before .before .before .if1 .left)) (rw w at (c .before .if2 .left)))))
+    let s = c .before .before .before .before .before .before .before .before .before in
+    let t = s .args .t .now in
+    let p = s .args .p in
+    let m = s .args .mode in
+    let e = s .args .event .now in
+    let k = s .args .k in
+    let shows = row-at (s .pre .0) k (s .pre .1 .1) (c .before .before .before .before .before .port-row .ensures) in
+    let compared = c .before .before .is-mode .ensures ∙ ap (λ x. eqb (x .mode) m) shows in
+    let named = by-name t p m e k (sym (ap (λ x. x .owner) shows) ∙ c .before .before .before .if1 .left) (sym compared ∙ not-false _ (c .before .if2 .left)) in
+    c .same-name .ensures ∙ (rw (s .pre .0 .laid .windowed) (sym named))
 
 pub is-named-spec : {M : Type 1} → statement M
 is-named-spec =
     tie.close
     (tie.spec
-    add-at
-    mul-at
-    add-if1
-    shared-slice-read-if1
+    add-r
+    port-row-requires
     returns
-    add-if2
-    shared-slice-read-if2
+    is-mode-requires
     returns-2
+    mul-same-name
     add-same-name
     same-name-requires
     returns-3)
