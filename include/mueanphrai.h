@@ -30,7 +30,7 @@ extern "C" {
 #define MUEANPHRAI_ANSWER 80u
 #define MUEANPHRAI_LONGEST_MESSAGE 64u
 
-/* The other limits of tables. Partitions are 0 to 15, windows and channels are numbered from 0, a port's id is its row from 1. */
+/* The other limits of tables. Partitions, windows and channels are numbered from 0; ports have ids from 1, in the order of their records. */
 #define MUEANPHRAI_PARTITIONS 16u
 #define MUEANPHRAI_MOST_WINDOWS 64u         /* at least one */
 #define MUEANPHRAI_MOST_PORTS 64u

@@ -198,9 +198,9 @@ fn refused_lists_touch_nothing() {
     assert!(!in_range(&[], &sound));
     let events = [SCHEDULE; 2 * EVENT];
     for (state, events, room, code) in [
-        (&sound, &events[1..], 160, EVENTS_LENGTH),
-        (&beyond, &events[..], 159, ANSWERS_SHORT),
-        (&beyond, &events[..], 160, STATE_REFUSED),
+        (&sound, &events[1..], 2 * ANSWER, EVENTS_LENGTH),
+        (&beyond, &events[..], 2 * ANSWER - 1, ANSWERS_SHORT),
+        (&beyond, &events[..], 2 * ANSWER, STATE_REFUSED),
         (&beyond, &[], 0, STATE_REFUSED),
     ] {
         let mut after = state.clone();
@@ -233,7 +233,8 @@ fn a_message_is_a_part_of_the_answers() {
     answers[ANSWER + ANSWER_MESSAGE_LENGTH] = 3;
     answers[ANSWER + ANSWER_MESSAGE..][..3].copy_from_slice(b"sky");
     assert_eq!(message(&answers, 1), b"sky");
-    assert_eq!(message(&answers, 1).as_ptr(), answers[96..].as_ptr());
+    let there = &answers[ANSWER + ANSWER_MESSAGE..];
+    assert_eq!(message(&answers, 1).as_ptr(), there.as_ptr());
     for (answers, record) in [
         (&answers[..], 2),
         (&answers[..], usize::MAX),
