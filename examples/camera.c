@@ -14,10 +14,8 @@
 
 #include "mueanphrai.h"
 
-enum { RENDERER = 0, INSTRUMENT = 1, MOVER = 32 };            /* whose window it is */
-enum { SOURCE = 0, DESTINATION = 1 };                         /* a port's direction */
-enum { CREATE = 1, WRITE = 2, READ = 3, MODE = 12, SCHEDULE = 13, TRANSMIT = 14 };
-enum { NO_ERROR = 0, NO_ACTION = 1, NORMAL = 3 };
+enum { RENDERER = 0, INSTRUMENT = 1 };   /* the partitions */
+enum { FROM = 1, TO = 2, CHANNEL = 0 };  /* the ports' ids, and the channel between them */
 enum { LARGEST = 16, REFRESH = 40, RECORDS = 6 };
 
 static uint8_t tables[RECORDS * MUEANPHRAI_TABLE_RECORD];
@@ -38,79 +36,115 @@ static void must(int so, const char *what)
 static uint8_t *record(int number, uint8_t kind)
 {
     uint8_t *bytes = tables + number * (int)MUEANPHRAI_TABLE_RECORD;
-    bytes[0] = kind;
+    bytes[MUEANPHRAI_RECORD_KIND] = kind;
     return bytes;
 }
 
 static void window(int number, uint8_t whose, uint8_t ticks)
 {
-    uint8_t *bytes = record(number, 1);
-    bytes[1] = whose;
-    bytes[2] = ticks;
+    uint8_t *bytes = record(number, MUEANPHRAI_KIND_WINDOW);
+    bytes[MUEANPHRAI_WINDOW_PARTITION] = whose;
+    bytes[MUEANPHRAI_WINDOW_LENGTH] = ticks;
 }
 
 static void sampling_port(int number, uint8_t owner, uint8_t direction, uint8_t refresh)
 {
-    uint8_t *bytes = record(number, 2);
-    bytes[1] = owner;
-    bytes[3] = direction;
-    bytes[4] = LARGEST;
-    bytes[12] = refresh;
-    memcpy(bytes + 16, "CAMERA", 6);
+    uint8_t *bytes = record(number, MUEANPHRAI_KIND_PORT);
+    bytes[MUEANPHRAI_PORT_OWNER] = owner;
+    bytes[MUEANPHRAI_PORT_MODE] = MUEANPHRAI_SAMPLING;
+    bytes[MUEANPHRAI_PORT_DIRECTION] = direction;
+    bytes[MUEANPHRAI_PORT_LARGEST] = LARGEST;
+    bytes[MUEANPHRAI_PORT_REFRESH] = refresh;
+    memcpy(bytes + MUEANPHRAI_PORT_NAME, "CAMERA", 6);
 }
 
 static void channel(int number, uint8_t source, uint8_t destination)
 {
-    uint8_t *bytes = record(number, 3);
-    bytes[1] = 1;
-    bytes[2] = source;
-    bytes[4] = destination;
+    uint8_t *bytes = record(number, MUEANPHRAI_KIND_CHANNEL);
+    bytes[MUEANPHRAI_CHANNEL_COUNT] = 1;
+    bytes[MUEANPHRAI_CHANNEL_SOURCE] = source;
+    bytes[MUEANPHRAI_CHANNEL_DESTINATIONS] = destination;
 }
 
-/* Events. Each is one step of the kernel; its return code is what the caller gets. */
+/* Events. Each is made from zeros, with the fields that its code uses, and is one step of the kernel; what comes back is the
+ * answer's code. */
 
-static uint8_t step(uint8_t code, uint8_t second, uint8_t id, uint8_t number, uint8_t length, const char *text)
+static uint8_t event[MUEANPHRAI_EVENT];
+
+static void begin(uint8_t code)
 {
-    uint8_t event[MUEANPHRAI_EVENT] = {0};
-    event[0] = code;
-    event[1] = second;
-    event[2] = id;
-    event[4] = number;
-    event[8] = length;
-    memcpy(event + 16, text, strlen(text));
+    memset(event, 0, sizeof event);
+    event[MUEANPHRAI_EVENT_CODE] = code;
+}
+
+static uint8_t step(void)
+{
     must(mueanphrai_step(tables, sizeof tables, state, sizeof state, event, sizeof event, answer, sizeof answer) == 0,
          "the kernel takes the event");
-    return answer[0];
+    return answer[MUEANPHRAI_ANSWER_CODE];
 }
 
 static void next_window(void)
 {
-    must(step(SCHEDULE, 0, 0, 0, 0, "") == NO_ERROR, "the schedule goes on");
+    begin(MUEANPHRAI_SCHEDULE);
+    must(step() == MUEANPHRAI_NO_ERROR, "the schedule goes on");
 }
 
 static void create(uint8_t direction, uint8_t refresh)
 {
-    must(step(CREATE, direction, 0, refresh, LARGEST, "CAMERA") == NO_ERROR, "the port is created");
-    must(step(MODE, NORMAL, 0, 0, 0, "") == NO_ERROR, "the partition goes to NORMAL");
+    begin(MUEANPHRAI_CREATE_SAMPLING_PORT);
+    event[MUEANPHRAI_EVENT_DIRECTION] = direction;
+    event[MUEANPHRAI_EVENT_REFRESH] = refresh;
+    event[MUEANPHRAI_EVENT_LARGEST] = LARGEST;
+    memcpy(event + MUEANPHRAI_EVENT_NAME, "CAMERA", 6);
+    must(step() == MUEANPHRAI_NO_ERROR, "the port is created");
+    begin(MUEANPHRAI_SET_PARTITION_MODE);
+    event[MUEANPHRAI_EVENT_NEW_MODE] = MUEANPHRAI_NORMAL;
+    must(step() == MUEANPHRAI_NO_ERROR, "the partition goes to NORMAL");
+}
+
+static void write_picture(const char *picture)
+{
+    begin(MUEANPHRAI_WRITE_SAMPLING_MESSAGE);
+    event[MUEANPHRAI_EVENT_PORT] = FROM;
+    event[MUEANPHRAI_EVENT_MESSAGE_LENGTH] = (uint8_t)strlen(picture);
+    memcpy(event + MUEANPHRAI_EVENT_MESSAGE, picture, strlen(picture));
+    must(step() == MUEANPHRAI_NO_ERROR, "the renderer writes");
+}
+
+static uint8_t move(void)
+{
+    begin(MUEANPHRAI_TRANSMIT);
+    event[MUEANPHRAI_EVENT_CHANNEL] = CHANNEL;
+    return step();
+}
+
+static uint8_t read_picture(void)
+{
+    begin(MUEANPHRAI_READ_SAMPLING_MESSAGE);
+    event[MUEANPHRAI_EVENT_PORT] = TO;
+    return step();
 }
 
 /* One turn of the schedule: the renderer writes a picture or nothing, the mover moves, the instrument reads. */
 static void turn(const char *picture, uint8_t moved, const char *seen, uint8_t valid)
 {
     size_t start, length;
+    int is_valid;
     if (picture != NULL)
-        must(step(WRITE, 0, 1, 0, (uint8_t)strlen(picture), picture) == NO_ERROR, "the renderer writes");
+        write_picture(picture);
     printf("renderer writes %-10s", picture != NULL ? picture : "nothing,");
     next_window();
-    must(step(TRANSMIT, 0, 0, 0, 0, "") == moved, "a sample is moved once");
-    printf(" %-18s", moved == NO_ERROR ? "it is moved," : "nothing to move,");
+    must(move() == moved, "a sample is moved once");
+    printf(" %-18s", moved == MUEANPHRAI_NO_ERROR ? "it is moved," : "nothing to move,");
     next_window();
-    must(step(READ, 0, 2, 0, 0, "") == NO_ERROR, "the instrument reads");
+    must(read_picture() == MUEANPHRAI_NO_ERROR, "the instrument reads");
     start = mueanphrai_message_start(answer, sizeof answer, 0);
     length = mueanphrai_message_length(answer, sizeof answer, 0);
-    printf(" instrument reads %.*s, %s\n", (int)length, (const char *)answer + start, answer[12] ? "valid" : "NOT valid");
+    is_valid = answer[MUEANPHRAI_ANSWER_VALIDITY] == MUEANPHRAI_VALID;
+    printf(" instrument reads %.*s, %s\n", (int)length, (const char *)answer + start, is_valid ? "valid" : "NOT valid");
     must(length == strlen(seen) && memcmp(answer + start, seen, length) == 0, "the picture is the one expected");
-    must(answer[12] == valid, "its validity is the one expected");
+    must(answer[MUEANPHRAI_ANSWER_VALIDITY] == valid, "its validity is the one expected");
     next_window();
 }
 
@@ -118,29 +152,29 @@ int main(void)
 {
     uint8_t code;
     window(0, RENDERER, 10);
-    window(1, MOVER, 5);
+    window(1, MUEANPHRAI_MOVER, 5);
     window(2, INSTRUMENT, 20);
-    sampling_port(3, RENDERER, SOURCE, 0);
-    sampling_port(4, INSTRUMENT, DESTINATION, REFRESH);
-    channel(5, 1, 2);
+    sampling_port(3, RENDERER, MUEANPHRAI_SOURCE, 0);
+    sampling_port(4, INSTRUMENT, MUEANPHRAI_DESTINATION, REFRESH);
+    channel(5, FROM, TO);
     code = mueanphrai_load(tables, sizeof tables, state, sizeof state);
     printf("load: code %u\n", code);
     must(code == 0, "the tables are accepted");
 
-    create(SOURCE, 0);
+    create(MUEANPHRAI_SOURCE, 0);
     next_window();
     next_window();
-    create(DESTINATION, REFRESH);
+    create(MUEANPHRAI_DESTINATION, REFRESH);
     next_window();
 
-    turn("harbour-1", NO_ERROR, "harbour-1", 1);
-    turn("harbour-2", NO_ERROR, "harbour-2", 1);
+    turn("harbour-1", MUEANPHRAI_NO_ERROR, "harbour-1", MUEANPHRAI_VALID);
+    turn("harbour-2", MUEANPHRAI_NO_ERROR, "harbour-2", MUEANPHRAI_VALID);
     puts("-- cut: the camera leaves the harbour, the next picture is not ready");
-    turn(NULL, NO_ACTION, "harbour-2", 1); /* age 40 at refresh 40 */
-    turn(NULL, NO_ACTION, "harbour-2", 0); /* the same bytes, but the instrument is told */
+    turn(NULL, MUEANPHRAI_NO_ACTION, "harbour-2", MUEANPHRAI_VALID);     /* age 40 at refresh 40 */
+    turn(NULL, MUEANPHRAI_NO_ACTION, "harbour-2", MUEANPHRAI_NOT_VALID); /* the same bytes, but the instrument is told */
     puts("-- the first picture after the cut");
-    turn("bridge-1", NO_ERROR, "bridge-1", 1);
-    turn(NULL, NO_ACTION, "bridge-1", 1); /* no move brings the harbour back */
+    turn("bridge-1", MUEANPHRAI_NO_ERROR, "bridge-1", MUEANPHRAI_VALID);
+    turn(NULL, MUEANPHRAI_NO_ACTION, "bridge-1", MUEANPHRAI_VALID); /* no move brings the harbour back */
     puts("the old sample is not seen again");
     return 0;
 }

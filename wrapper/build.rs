@@ -1,5 +1,6 @@
 //! Says where the archive libhost.a stands: in the folder that MUEANPHRAI_LIB names, else where
-//! `rt staticlib host` writes it. A changed archive is linked again.
+//! `rt staticlib host` writes it. A changed archive is linked again. Where it is missing, a warning
+//! says what to do: checking and documenting go on without it, linking ends with rustc's error.
 
 use std::env;
 use std::path::PathBuf;
@@ -13,6 +14,16 @@ fn main() {
         }
     };
     let archive = folder.join("libhost.a");
+    if !archive.is_file() {
+        println!(
+            "cargo:warning=the kernel's archive is missing: there is no {}",
+            archive.display()
+        );
+        println!(
+            "cargo:warning=`rt staticlib host` in the repository's root writes it; or let \
+             MUEANPHRAI_LIB name the folder that holds it"
+        );
+    }
     println!("cargo:rerun-if-env-changed=MUEANPHRAI_LIB");
     println!("cargo:rerun-if-changed={}", archive.display());
     println!("cargo:rustc-link-search=native={}", folder.display());

@@ -12,7 +12,8 @@
 //! - no other thread that writes meanwhile: the same rule, across threads.
 //!
 //! So every function here is safe for every argument. Tables, events, answers and states are
-//! bytes: any bytes may be handed in, and the kernel itself refuses what is out of range.
+//! bytes: any bytes may be handed in, and the kernel itself refuses what is out of range. Their
+//! codes, places and limits have names in [`numbers`].
 //!
 //! ```no_run
 //! # let (tables, event) = ([0u8; 48], [0u8; 80]);
@@ -26,27 +27,14 @@
 #![warn(missing_docs)]
 
 pub mod lent;
+pub mod numbers;
 mod state;
 
+pub use numbers::{
+    ANSWER, ANSWERS_SHORT, EVENT, EVENTS_LENGTH, LONGEST_MESSAGE, STATE_REFUSED, STATE_SIZE,
+    TABLE_RECORD,
+};
 pub use state::State;
-
-/// Bytes of a table record.
-pub const TABLE_RECORD: usize = 48;
-/// Bytes of an event.
-pub const EVENT: usize = 80;
-/// Bytes of an answer.
-pub const ANSWER: usize = 80;
-/// Most bytes of a message.
-pub const LONGEST_MESSAGE: usize = 64;
-/// Bytes of a state.
-pub const STATE_SIZE: usize = 36_120;
-
-/// Refusal of a list: events that are no whole records.
-pub const EVENTS_LENGTH: u8 = 27;
-/// Refusal of a list: fewer answer bytes than event bytes.
-pub const ANSWERS_SHORT: u8 = 28;
-/// Refusal of a list: tables that a load refuses, or a state number outside its range.
-pub const STATE_REFUSED: u8 = 29;
 
 /// Why a load was refused.
 #[derive(Clone, Copy, Debug, PartialEq, Eq)]

@@ -1,18 +1,14 @@
 //! A state: bytes of the right size, with names for what stands in them.
 
-use crate::{LONGEST_MESSAGE, STATE_SIZE};
-
-/// Where each part stands; the numbers are those of the header.
-const WINDOW: usize = 0;
-const TIME: usize = 4;
-const MODES: usize = 8;
-const NUMBERS: usize = 24;
-const MESSAGES: usize = 3_352;
+use crate::numbers::{
+    GREATEST_DEPTH, LONGEST_MESSAGE, MOST_PORTS, PARTITIONS, STATE_MESSAGES, STATE_MODES,
+    STATE_NUMBERS, STATE_SIZE, STATE_TIME, STATE_WINDOW,
+};
 
 /// Numbers of a port row, four bytes each.
 const ROW: usize = 13;
 /// Slots of a port row.
-const SLOTS: usize = 8;
+const SLOTS: usize = GREATEST_DEPTH;
 
 /// The whole state of a kernel: 36,120 bytes in place, which a host may put into a `Box` or a static.
 ///
@@ -41,17 +37,17 @@ impl State {
 
     /// The current window, from 0.
     pub fn window(&self) -> u32 {
-        self.number(WINDOW)
+        self.number(STATE_WINDOW)
     }
 
     /// The tick count.
     pub fn time(&self) -> u32 {
-        self.number(TIME)
+        self.number(STATE_TIME)
     }
 
     /// The mode of a partition 0 to 15: IDLE 0, COLD_START 1, WARM_START 2, NORMAL 3.
     pub fn mode(&self, partition: usize) -> u8 {
-        self.bytes[MODES..NUMBERS][partition]
+        self.bytes[STATE_MODES..][..PARTITIONS][partition]
     }
 
     /// Whether the port with an id from 1 to 64 is created.
@@ -81,14 +77,14 @@ impl State {
             return None;
         }
         let slot = (self.port(id, 3) as usize % SLOTS + older) % SLOTS;
-        let start = MESSAGES + ((id - 1) * SLOTS + slot) * LONGEST_MESSAGE;
+        let start = STATE_MESSAGES + ((id - 1) * SLOTS + slot) * LONGEST_MESSAGE;
         self.bytes[start..][..LONGEST_MESSAGE].get(..self.port(id, 5 + slot) as usize)
     }
 
     /// A number of a port's row.
     fn port(&self, id: usize, number: usize) -> u32 {
-        assert!((1..=64).contains(&id), "a port's id is 1 to 64");
-        self.number(NUMBERS + 4 * (ROW * (id - 1) + number))
+        assert!((1..=MOST_PORTS).contains(&id), "a port's id is 1 to 64");
+        self.number(STATE_NUMBERS + 4 * (ROW * (id - 1) + number))
     }
 
     /// The four bytes at a place as a number.
@@ -104,7 +100,7 @@ impl core::fmt::Debug for State {
         out.debug_struct("State")
             .field("window", &self.window())
             .field("time", &self.time())
-            .field("modes", &&self.bytes[MODES..NUMBERS])
+            .field("modes", &&self.bytes[STATE_MODES..][..PARTITIONS])
             .finish_non_exhaustive()
     }
 }

@@ -1,5 +1,6 @@
 //! 01's worked example through the wrapper, and what its calls refuse.
 
+use mueanphrai::numbers::*;
 use mueanphrai::*;
 
 /// A record of `SIZE` bytes: bytes at their places, else zero.
@@ -14,42 +15,76 @@ fn record<const SIZE: usize>(parts: &[(usize, &[u8])]) -> [u8; SIZE] {
 /// Partition 0 writes SKY, partition 1 reads it with refresh period 20; a mover window between.
 fn sky() -> Vec<u8> {
     let records: [[u8; TABLE_RECORD]; 6] = [
-        record(&[(0, &[1, 0, 10])]),
-        record(&[(0, &[1, 32, 5])]),
-        record(&[(0, &[1, 1, 20])]),
-        record(&[(0, &[2, 0, 0, 0, 4]), (16, b"SKY")]),
-        record(&[(0, &[2, 1, 0, 1, 4]), (12, &[20]), (16, b"SKY")]),
-        record(&[(0, &[3, 1, 1, 0, 2])]),
+        window(0, 10),
+        window(MOVER, 5),
+        window(1, 20),
+        sampling_port(0, SOURCE, 0),
+        sampling_port(1, DESTINATION, 20),
+        record(&[
+            (RECORD_KIND, &[KIND_CHANNEL]),
+            (CHANNEL_COUNT, &[1]),
+            (CHANNEL_SOURCE, &[1]),
+            (CHANNEL_DESTINATIONS, &[2]),
+        ]),
     ];
     records.concat()
 }
 
-fn create(direction: u8, refresh: u8) -> [u8; EVENT] {
+fn window(partition: u8, ticks: u8) -> [u8; TABLE_RECORD] {
     record(&[
-        (0, &[1, direction]),
-        (4, &[refresh]),
-        (8, &[4]),
-        (16, b"SKY"),
+        (RECORD_KIND, &[KIND_WINDOW]),
+        (WINDOW_PARTITION, &[partition]),
+        (WINDOW_LENGTH, &[ticks]),
     ])
 }
 
+fn sampling_port(owner: u8, direction: u8, refresh: u8) -> [u8; TABLE_RECORD] {
+    record(&[
+        (RECORD_KIND, &[KIND_PORT]),
+        (PORT_OWNER, &[owner]),
+        (PORT_MODE, &[SAMPLING]),
+        (PORT_DIRECTION, &[direction]),
+        (PORT_LARGEST, &[4]),
+        (PORT_REFRESH, &[refresh]),
+        (PORT_NAME, b"SKY"),
+    ])
+}
+
+fn create(direction: u8, refresh: u8) -> [u8; EVENT] {
+    record(&[
+        (EVENT_CODE, &[CREATE_SAMPLING_PORT]),
+        (EVENT_DIRECTION, &[direction]),
+        (EVENT_REFRESH, &[refresh]),
+        (EVENT_LARGEST, &[4]),
+        (EVENT_NAME, b"SKY"),
+    ])
+}
+
+/// An event with a port's id, a channel or nothing in bytes 2-3.
 fn simple(code: u8, id: u8) -> [u8; EVENT] {
-    record(&[(0, &[code]), (2, &[id])])
+    record(&[(EVENT_CODE, &[code]), (EVENT_PORT, &[id])])
 }
 
 fn write() -> [u8; EVENT] {
-    record(&[(0, &[2]), (2, &[1]), (8, &[2]), (16, &[0x41, 0x42])])
+    record(&[
+        (EVENT_CODE, &[WRITE_SAMPLING_MESSAGE]),
+        (EVENT_PORT, &[1]),
+        (EVENT_MESSAGE_LENGTH, &[2]),
+        (EVENT_MESSAGE, &[0x41, 0x42]),
+    ])
 }
 
 /// The fifteen events of 01's listing.
 fn listing() -> Vec<u8> {
-    let clock = simple(13, 0);
-    let (read, status, transmit) = (simple(3, 2), simple(5, 2), simple(14, 0));
+    let clock = simple(SCHEDULE, 0);
+    let read = simple(READ_SAMPLING_MESSAGE, 2);
+    let status = simple(GET_SAMPLING_PORT_STATUS, 2);
+    let transmit = simple(TRANSMIT, 0);
     let events = [
-        create(0, 0),
+        create(SOURCE, 0),
         clock,
         clock,
-        create(1, 20),
+        create(DESTINATION, 20),
         clock,
         write(),
         clock,
@@ -76,11 +111,17 @@ fn the_worked_example() {
     answers.truncate(events.len());
     let fields: Vec<(u8, u8, u8)> = answers
         .chunks(ANSWER)
-        .map(|answer| (answer[1], answer[0], answer[12]))
+        .map(|answer| {
+            (
+                answer[ANSWER_DOER],
+                answer[ANSWER_CODE],
+                answer[ANSWER_VALIDITY],
+            )
+        })
         .collect();
-    assert_eq!(fields[7], (64, 0, 0));
-    assert_eq!(fields[9], (1, 0, 1), "valid");
-    assert_eq!(fields[14], (1, 0, 0), "past its refresh period");
+    assert_eq!(fields[7], (FIRST_CHANNEL, NO_ERROR, 0));
+    assert_eq!(fields[9], (1, NO_ERROR, VALID));
+    assert_eq!(fields[14], (1, NO_ERROR, NOT_VALID), "past its period");
     assert_eq!(message(&answers, 9), [0x41, 0x42]);
     assert_eq!(message(&answers, 14), [0x41, 0x42]);
     assert_eq!((state.window(), state.time()), (2, 85));
@@ -135,14 +176,15 @@ fn calls_at_once_do_not_meet() {
 fn a_load_gives_the_state_at_load_or_the_first_fault() {
     let state = load(&sky()).unwrap();
     assert_eq!((state.window(), state.time()), (0, 0));
-    assert!((0..16).all(|partition| state.mode(partition) == 1));
-    assert!((1..=64).all(|id| !state.created(id) && state.count(id) == 0));
+    assert!((0..PARTITIONS).all(|partition| state.mode(partition) == COLD_START));
+    assert!((1..=MOST_PORTS).all(|id| !state.created(id) && state.count(id) == 0));
     let refused = |code, record| Err(Refused { code, record });
-    assert_eq!(load(&[]), refused(20, 0));
+    assert_eq!(load(&[]), refused(TABLES_LENGTH, 0));
     let mut tables = sky();
-    tables[4 * TABLE_RECORD + 1] = 16;
-    assert_eq!(load(&tables), refused(23, 4));
-    assert_eq!(load(&sky()[3 * TABLE_RECORD..]), refused(26, 3));
+    tables[4 * TABLE_RECORD + PORT_OWNER] = 16;
+    assert_eq!(load(&tables), refused(TABLES_FIELD, 4));
+    let no_window = &sky()[3 * TABLE_RECORD..];
+    assert_eq!(load(no_window), refused(TABLES_NO_WINDOW, 3));
 }
 
 #[test]
@@ -150,15 +192,15 @@ fn refused_lists_touch_nothing() {
     let tables = sky();
     let sound = load(&tables).unwrap();
     let mut bytes = *sound.as_bytes();
-    bytes[0] = 3;
+    bytes[STATE_WINDOW] = 3;
     let beyond = State::from_bytes(bytes);
     assert!(in_range(&tables, &sound) && !in_range(&tables, &beyond));
     assert!(!in_range(&[], &sound));
-    let events = [13; 2 * EVENT];
+    let events = [SCHEDULE; 2 * EVENT];
     for (state, events, room, code) in [
-        (&sound, &events[1..], 160, EVENTS_LENGTH),
-        (&beyond, &events[..], 159, ANSWERS_SHORT),
-        (&beyond, &events[..], 160, STATE_REFUSED),
+        (&sound, &events[1..], 2 * ANSWER, EVENTS_LENGTH),
+        (&beyond, &events[..], 2 * ANSWER - 1, ANSWERS_SHORT),
+        (&beyond, &events[..], 2 * ANSWER, STATE_REFUSED),
         (&beyond, &[], 0, STATE_REFUSED),
     ] {
         let mut after = state.clone();
@@ -170,7 +212,7 @@ fn refused_lists_touch_nothing() {
     let mut after = beyond.clone();
     let mut answer = [7; ANSWER];
     assert_eq!(
-        step(&tables, &mut after, &simple(13, 0), &mut answer),
+        step(&tables, &mut after, &simple(SCHEDULE, 0), &mut answer),
         Err(STATE_REFUSED)
     );
     assert_eq!(answer, [7; ANSWER]);
@@ -188,10 +230,11 @@ fn an_empty_list_does_nothing() {
 #[test]
 fn a_message_is_a_part_of_the_answers() {
     let mut answers = vec![0; 2 * ANSWER];
-    answers[ANSWER + 8] = 3;
-    answers[ANSWER + 16..][..3].copy_from_slice(b"sky");
+    answers[ANSWER + ANSWER_MESSAGE_LENGTH] = 3;
+    answers[ANSWER + ANSWER_MESSAGE..][..3].copy_from_slice(b"sky");
     assert_eq!(message(&answers, 1), b"sky");
-    assert_eq!(message(&answers, 1).as_ptr(), answers[96..].as_ptr());
+    let there = &answers[ANSWER + ANSWER_MESSAGE..];
+    assert_eq!(message(&answers, 1).as_ptr(), there.as_ptr());
     for (answers, record) in [
         (&answers[..], 2),
         (&answers[..], usize::MAX),
@@ -200,9 +243,10 @@ fn a_message_is_a_part_of_the_answers() {
     ] {
         assert!(message(answers, record).is_empty());
     }
-    answers[ANSWER + 8] = 65;
+    answers[ANSWER + ANSWER_MESSAGE_LENGTH] = 65;
     assert!(message(&answers, 1).is_empty());
-    answers[ANSWER..][..9].copy_from_slice(&[1, 0, 0, 0, 0, 0, 0, 0, 3]);
+    answers[ANSWER + ANSWER_MESSAGE_LENGTH] = 3;
+    answers[ANSWER + ANSWER_CODE] = NO_ACTION;
     assert!(message(&answers, 1).is_empty());
 }
 
@@ -213,8 +257,8 @@ fn numbers_out_of_range_give_no_byte_outside_the_slots() {
     assert_eq!(state.message(64, 7), None);
     assert_eq!(state.message(64, 8), None);
     // a count and an oldest slot out of range, and a length that would do
-    bytes[24 + 20 + 4 * 7] = 64;
-    bytes[24 + 20 + 4 * 7 + 1..][..3].fill(0);
+    bytes[STATE_NUMBERS + 20 + 4 * 7] = 64;
+    bytes[STATE_NUMBERS + 20 + 4 * 7 + 1..][..3].fill(0);
     let state = State::from_bytes(bytes);
     assert_eq!(state.message(1, 0), Some(&[0xFF; 64][..]));
     assert_eq!(state.window(), u32::MAX);
@@ -224,8 +268,8 @@ fn numbers_out_of_range_give_no_byte_outside_the_slots() {
 fn the_archive_has_states_of_this_size() {
     assert_eq!(lent::state_size(), STATE_SIZE);
     let mut short = [5; STATE_SIZE - 1];
-    assert_eq!(lent::load(&sky(), &mut short), 29);
-    assert_eq!(lent::run(&sky(), &mut short, &[], &mut []), 29);
+    assert_eq!(lent::load(&sky(), &mut short), STATE_REFUSED);
+    assert_eq!(lent::run(&sky(), &mut short, &[], &mut []), STATE_REFUSED);
     assert_eq!(lent::in_range(&sky(), &short), 0);
     assert!(short.iter().all(|&byte| byte == 5));
 }
