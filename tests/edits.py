@@ -34,7 +34,7 @@ def log_folders(names):
 
 def edits():
     """Each crate that has edits, with their files, in the order of crates.txt."""
-    crates = [line.split(":")[0] for line in (ROOT / "crates.txt").read_text().splitlines() if ":" in line]
+    crates = re.findall(r"^(\w+):", (ROOT / "crates.txt").read_text(), re.M)
     found = ((crate, sorted((ROOT / "crates" / crate / "must-fail").glob("*.edit"))) for crate in crates)
     return [(crate, files) for crate, files in found if files]
 
