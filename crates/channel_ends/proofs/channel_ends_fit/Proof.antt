@@ -9,6 +9,10 @@ use Rattle.model.specs.Load.{channelEndsFit}
 use Rattle.tables.proofs.Answers.{fails, holds}
 use Rattle.channel_ends.proofs.ChannelEnds.{asked, source-rowed, source-known, source-there, count-of}
 
+-- the points on the way: from each the one before it that an answer names
+abbrev from-count-fits : tie.After-count-fits → tie.After-row-mode
+from-count-fits c = c .before .before
+
 source-fits-requires : tie.Need-source-fits-requires
 source-fits-requires c κs = search needs
 
@@ -26,23 +30,27 @@ id-record-requires c κs =
 
 destinations-fit-requires : tie.Need-destinations-fit-requires
 destinations-fit-requires c κs =
-    let one = c .before .before in
+    let at-end-at = c .before in
+    let one = at-end-at .before in
     let placed = one .before .before .before .pre in
     let fits = holds (one .before .source-fits .ensures) (one .if1 .left) in
-    (placed, source-known placed fits (c .before .end-at .ensures) (c .id-record .ensures))
+    (placed, source-known placed fits (at-end-at .end-at .ensures) (c .id-record .ensures))
 
 returns-2 : tie.Need-returns-2
 unfolding channelEndsFit
 returns-2 c =
-    let one = c .before .before .before .before in
-    rw (holds (one .before .source-fits .ensures) (one .if1 .left), fails (c .before .destinations-fit .ensures) (c .if2 .taken))
+    let at-destinations-fit = c .before in
+    let one = at-destinations-fit .before .before .before in
+    rw (holds (one .before .source-fits .ensures) (one .if1 .left), fails (at-destinations-fit .destinations-fit .ensures) (c .if2 .taken))
 
 row-mode-requires : tie.Need-row-mode-requires
 row-mode-requires c κs =
-    let one = c .before .before .before .before in
+    let at-id-record = c .before .before in
+    let at-end-at = at-id-record .before in
+    let one = at-end-at .before in
     let placed = one .before .before .before .pre in
     let fits = holds (one .before .source-fits .ensures) (one .if1 .left) in
-    source-there (source-known placed fits (c .before .before .before .end-at .ensures) (c .before .before .id-record .ensures))
+    source-there (source-known placed fits (at-end-at .end-at .ensures) (at-id-record .id-record .ensures))
 
 mul-count-fits : tie.Need-mul-count-fits
 mul-count-fits c = search needs
@@ -59,12 +67,13 @@ count-fits-requires c κs = search needs
 returns-3 : tie.Need-returns-3
 unfolding channelEndsFit
 returns-3 c =
-    let moded = c .before .before .before in
+    let at-count-fits = c .before in
+    let moded = from-count-fits at-count-fits in
     let two = moded .before in
     let one = two .before .before .before .before in
     let fits = holds (one .before .source-fits .ensures) (one .if1 .left) in
     let known = source-known (one .before .before .before .pre) fits (two .before .before .before .end-at .ensures) (two .before .before .id-record .ensures) in
-    let counted = count-of known (moded .row-mode .ensures) (c .before .count-fits .ensures) in
+    let counted = count-of known (moded .row-mode .ensures) (at-count-fits .count-fits .ensures) in
     rw (fits, holds (two .before .destinations-fit .ensures) (two .if2 .left), fails counted (c .if3 .taken))
 
 named-again-requires : tie.Need-named-again-requires

@@ -10,11 +10,17 @@ use Rattle.tables.proofs.Places.{ports-after}
 use Rattle.tables.proofs.Answers.{fails, holds}
 use Rattle.channel_ends.proofs.ChannelEnds.{has-row, there, in-record, source-there, destination-end}
 
+-- the points on the way: from each the one before it that an answer names
+abbrev from-end-at : tie.After-end-at → tie.Start
+from-end-at c = c .before .before
+
 end-at-requires : tie.Need-end-at-requires
 end-at-requires c κs = search needs
 
 sub-is-port : tie.Need-sub-is-port
-sub-is-port c = omega (arith, ports-after (c .before .before .args .t .now))
+sub-is-port c =
+    let s = from-end-at c in
+    omega (arith, ports-after (s .args .t .now))
 
 is-port-requires : tie.Need-is-port-requires
 is-port-requires c κs = search needs
@@ -22,7 +28,10 @@ is-port-requires c κs = search needs
 returns : tie.Need-returns
 unfolding endFits
 returns c =
-    let test = has-row (c .before .before .before .before .pre .0) (c .before .before .end-at .ensures) (c .before .is-port .ensures) in
+    let at-is-port = c .before in
+    let at-end-at = at-is-port .before in
+    let s = from-end-at at-end-at in
+    let test = has-row (s .pre .0) (at-end-at .end-at .ensures) (at-is-port .is-port .ensures) in
     rw (fails test (c .if1 .taken))
 
 id-record-requires : tie.Need-id-record-requires
@@ -37,11 +46,12 @@ takes-from-requires c κs =
 
 returns-2 : tie.Need-returns-2
 returns-2 c =
-    let tested = c .before .before in
+    let at-id-record = c .before in
+    let tested = at-id-record .before in
     let end = tested .before .before in
     let given = end .before .before in
     let test = has-row (given .pre .0) (end .end-at .ensures) (tested .before .is-port .ensures) in
-    let stands = in-record (given .pre .0) (end .end-at .ensures) (c .before .id-record .ensures) in
+    let stands = in-record (given .pre .0) (end .end-at .ensures) (at-id-record .id-record .ensures) in
     (rw (stands, given .pre .1 .0 .stands) at (c .takes-from .ensures))
     ∙ sym (destination-end _ _ _ (given .pre .1 .1 .0) (holds test (tested .if1 .left)))
 

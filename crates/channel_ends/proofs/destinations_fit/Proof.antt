@@ -19,6 +19,10 @@ Inv-loop t first-port first-channel r source end j₀ j = (1 ≤ j) × (end ≡ 
 abbrev μ-loop : tie.MeasureT-loop
 μ-loop t first-port first-channel r source end j₀ j = end - j
 
+-- the points on the way: from each the one before it that an answer names
+abbrev from-at-loop : tie.At-loop Inv-loop μ-loop → tie.After-shared-slice-known Inv-loop μ-loop
+from-at-loop c = c .before .before
+
 end-count-requires : tie.Need-end-count-requires Inv-loop μ-loop
 end-count-requires c κs = search needs
 
@@ -27,17 +31,23 @@ loop-holds c = (omega arith, c .end-count .ensures, destinations-whole _ _ _ (c 
 
 destination-fits-requires : tie.Need-destination-fits-requires Inv-loop μ-loop
 destination-fits-requires c κs =
-    let at = c .before .loop in
-    let given = c .before .before .before .before in
-    let bytes = c .before .before .before .shared-slice-known .given in
+    let at-at-loop = c .before in
+    let at-shared-slice-known = from-at-loop at-at-loop in
+    let given = at-shared-slice-known .before in
+    let at = at-at-loop .loop in
+    let bytes = at-shared-slice-known .shared-slice-known .given in
     (given .pre .0, (given .pre .1, omega (arith, at .inv .0, at .inv .1, bytes (48 * given .args .r + 1))))
 
 returns : tie.Need-returns Inv-loop μ-loop
 returns c =
-    let given = c .before .before .before .before .before .before .args in
-    let at = c .before .before .before .loop in
-    let test = fails (c .before .destination-fits .ensures) (c .if1 .taken) in
-    sym (at .inv .2 ∙ all-stop (endFits (given .t .now) (given .r)) _ (at .j) (c .before .before .loop-test .taken) test)
+    let at-destination-fits = c .before in
+    let at-in-loop = at-destination-fits .before in
+    let at-at-loop = at-in-loop .before in
+    let s = (from-at-loop at-at-loop) .before in
+    let given = s .args in
+    let at = at-at-loop .loop in
+    let test = fails (at-destination-fits .destination-fits .ensures) (c .if1 .taken) in
+    sym (at .inv .2 ∙ all-stop (endFits (given .t .now) (given .r)) _ (at .j) (at-in-loop .loop-test .taken) test)
 
 add-j : tie.Need-add-j Inv-loop μ-loop
 add-j c = search needs
@@ -47,15 +57,21 @@ loop-less c = search needs
 
 loop-again : tie.Need-loop-again Inv-loop μ-loop
 loop-again c =
-    let given = c .before .before .before .before .before .before .args in
-    let at = c .before .before .before .loop in
-    let test = holds (c .before .destination-fits .ensures) (c .if1 .left) in
-    (omega arith, at .inv .1, at .inv .2 ∙ all-more (endFits (given .t .now) (given .r)) _ (at .j) (c .before .before .loop-test .taken) test)
+    let at-destination-fits = c .before in
+    let at-in-loop = at-destination-fits .before in
+    let at-at-loop = at-in-loop .before in
+    let s = (from-at-loop at-at-loop) .before in
+    let given = s .args in
+    let at = at-at-loop .loop in
+    let test = holds (at-destination-fits .destination-fits .ensures) (c .if1 .left) in
+    (omega arith, at .inv .1, at .inv .2 ∙ all-more (endFits (given .t .now) (given .r)) _ (at .j) (at-in-loop .loop-test .taken) test)
 
 returns-2 : tie.Need-returns-2 Inv-loop μ-loop
 returns-2 c =
-    let given = c .before .before .before .before .args in
-    sym (c .before .loop .inv .2 ∙ all-end (endFits (given .t .now) (given .r)) _ (c .before .loop .j) (c .loop-test .left))
+    let at-at-loop = c .before in
+    let s = (from-at-loop at-at-loop) .before in
+    let given = s .args in
+    sym (at-at-loop .loop .inv .2 ∙ all-end (endFits (given .t .now) (given .r)) _ (at-at-loop .loop .j) (c .loop-test .left))
 
 pub destinations-fit-spec : {M : Type 1} → statement M
 destinations-fit-spec =

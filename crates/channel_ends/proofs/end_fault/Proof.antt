@@ -17,7 +17,9 @@ returns c = rw (← c .before .kind .ensures, c .if1 .taken)
 
 returns-2 : tie.Need-returns-2
 unfolding endFault
-returns-2 c = rw (← c .before .before .kind .ensures, c .if2 .taken)
+returns-2 c =
+    let at-kind = c .before .before in
+    rw (← at-kind .kind .ensures, c .if2 .taken)
 
 channel-ends-fit-requires : tie.Need-channel-ends-fit-requires
 channel-ends-fit-requires c κs = search needs
@@ -25,7 +27,10 @@ channel-ends-fit-requires c κs = search needs
 returns-3 : tie.Need-returns-3
 unfolding endFault
 returns-3 c =
-    rw (← c .before .before .before .kind .ensures, ne-eqb _ 1 (c .before .before .if1 .left), ne-eqb _ 2 (c .before .if2 .left))
+    let at-else2 = c .before in
+    let at-else1 = at-else2 .before in
+    let at-kind = at-else1 .before in
+    rw (← at-kind .kind .ensures, ne-eqb _ 1 (at-else1 .if1 .left), ne-eqb _ 2 (at-else2 .if2 .left))
     (ap not (c .channel-ends-fit .ensures))
 
 pub end-fault-spec : {M : Type 1} → statement M

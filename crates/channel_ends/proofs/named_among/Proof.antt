@@ -17,6 +17,10 @@ Inv-loop t id n q i₀ i = namedAmong t id n q ≡ any (isEnd t id q) (n - i) i
 abbrev μ-loop : tie.MeasureT-loop
 μ-loop t id n q i₀ i = n - i
 
+-- the points on the way: from each the one before it that an answer names
+abbrev from-at-loop : tie.At-loop Inv-loop μ-loop → tie.Start Inv-loop μ-loop
+from-at-loop c = c .before .before
+
 loop-holds : tie.Need-loop-holds Inv-loop μ-loop
 loop-holds c = among-whole _ _ _ _
 
@@ -25,10 +29,14 @@ end-at-requires c κs = search needs
 
 returns : tie.Need-returns Inv-loop μ-loop
 returns c =
-    let x = c .before .before .before .before .before .args in
-    let at = c .before .before .before .loop in
-    let test = eq-eqb _ _ (sym (c .before .end-at .ensures) ∙ c .if1 .taken) in
-    sym (at .inv ∙ any-stop (isEnd (x .t .now) (x .id) (x .q)) (x .n) (at .i) (c .before .before .loop-test .taken) test)
+    let at-end-at = c .before in
+    let at-in-loop = at-end-at .before in
+    let at-at-loop = at-in-loop .before in
+    let s = from-at-loop at-at-loop in
+    let x = s .args in
+    let at = at-at-loop .loop in
+    let test = eq-eqb _ _ (sym (at-end-at .end-at .ensures) ∙ c .if1 .taken) in
+    sym (at .inv ∙ any-stop (isEnd (x .t .now) (x .id) (x .q)) (x .n) (at .i) (at-in-loop .loop-test .taken) test)
 
 add-i : tie.Need-add-i Inv-loop μ-loop
 add-i c = search needs
@@ -38,15 +46,21 @@ loop-less c = search needs
 
 loop-again : tie.Need-loop-again Inv-loop μ-loop
 loop-again c =
-    let x = c .before .before .before .before .before .args in
-    let at = c .before .before .before .loop in
-    let test = ne-eqb _ _ (λ e. c .if1 .left (c .before .end-at .ensures ∙ e)) in
-    at .inv ∙ any-more (isEnd (x .t .now) (x .id) (x .q)) (x .n) (at .i) (c .before .before .loop-test .taken) test
+    let at-end-at = c .before in
+    let at-in-loop = at-end-at .before in
+    let at-at-loop = at-in-loop .before in
+    let s = from-at-loop at-at-loop in
+    let x = s .args in
+    let at = at-at-loop .loop in
+    let test = ne-eqb _ _ (λ e. c .if1 .left (at-end-at .end-at .ensures ∙ e)) in
+    at .inv ∙ any-more (isEnd (x .t .now) (x .id) (x .q)) (x .n) (at .i) (at-in-loop .loop-test .taken) test
 
 returns-2 : tie.Need-returns-2 Inv-loop μ-loop
 returns-2 c =
-    let x = c .before .before .before .args in
-    sym (c .before .loop .inv ∙ any-end (isEnd (x .t .now) (x .id) (x .q)) (x .n) (c .before .loop .i) (c .loop-test .left))
+    let at-at-loop = c .before in
+    let s = from-at-loop at-at-loop in
+    let x = s .args in
+    sym (at-at-loop .loop .inv ∙ any-end (isEnd (x .t .now) (x .id) (x .q)) (x .n) (at-at-loop .loop .i) (c .loop-test .left))
 
 pub named-among-spec : {M : Type 1} → statement M
 named-among-spec =

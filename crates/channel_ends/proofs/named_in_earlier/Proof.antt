@@ -26,15 +26,22 @@ end-count-requires c κs = search needs
 
 named-among-requires : tie.Need-named-among-requires Inv-loop μ-loop
 named-among-requires c κs =
-    let bytes = c .before .before .before .shared-slice-known .given in
-    omega (arith, c .end-count .ensures, bytes (48 * c .before .before .loop .q + 1))
+    let at-at-loop = c .before .before in
+    let at-shared-slice-known = at-at-loop .before in
+    let bytes = at-shared-slice-known .shared-slice-known .given in
+    omega (arith, c .end-count .ensures, bytes (48 * at-at-loop .loop .q + 1))
 
 returns : tie.Need-returns Inv-loop μ-loop
 returns c =
-    let x = c .before .before .before .before .before .before .args in
-    let at = c .before .before .before .before .loop in
-    let named = c .before .named-among .ensures ∙ ap (λ (n : ℕ). namedAmong (x .t .now) (x .id) n (at .q)) (c .before .before .end-count .ensures) in
-    sym (at .inv ∙ any-stop (names (x .t .now) (x .id)) (x .r) (at .q) (c .before .before .before .loop-test .taken) (sym named ∙ c .if1 .taken))
+    let at-named-among = c .before in
+    let at-end-count = at-named-among .before in
+    let at-in-loop = at-end-count .before in
+    let at-at-loop = at-in-loop .before in
+    let s = at-at-loop .before .before in
+    let x = s .args in
+    let at = at-at-loop .loop in
+    let named = at-named-among .named-among .ensures ∙ ap (λ (n : ℕ). namedAmong (x .t .now) (x .id) n (at .q)) (at-end-count .end-count .ensures) in
+    sym (at .inv ∙ any-stop (names (x .t .now) (x .id)) (x .r) (at .q) (at-in-loop .loop-test .taken) (sym named ∙ c .if1 .taken))
 
 add-q : tie.Need-add-q Inv-loop μ-loop
 add-q c = search needs
@@ -44,15 +51,22 @@ loop-less c = search needs
 
 loop-again : tie.Need-loop-again Inv-loop μ-loop
 loop-again c =
-    let x = c .before .before .before .before .before .before .args in
-    let at = c .before .before .before .before .loop in
-    let named = c .before .named-among .ensures ∙ ap (λ (n : ℕ). namedAmong (x .t .now) (x .id) n (at .q)) (c .before .before .end-count .ensures) in
-    at .inv ∙ any-more (names (x .t .now) (x .id)) (x .r) (at .q) (c .before .before .before .loop-test .taken) (sym named ∙ c .if1 .left)
+    let at-named-among = c .before in
+    let at-end-count = at-named-among .before in
+    let at-in-loop = at-end-count .before in
+    let at-at-loop = at-in-loop .before in
+    let s = at-at-loop .before .before in
+    let x = s .args in
+    let at = at-at-loop .loop in
+    let named = at-named-among .named-among .ensures ∙ ap (λ (n : ℕ). namedAmong (x .t .now) (x .id) n (at .q)) (at-end-count .end-count .ensures) in
+    at .inv ∙ any-more (names (x .t .now) (x .id)) (x .r) (at .q) (at-in-loop .loop-test .taken) (sym named ∙ c .if1 .left)
 
 returns-2 : tie.Need-returns-2 Inv-loop μ-loop
 returns-2 c =
-    let x = c .before .before .before .args in
-    sym (c .before .loop .inv ∙ any-end (names (x .t .now) (x .id)) (x .r) (c .before .loop .q) (c .loop-test .left))
+    let at-at-loop = c .before in
+    let s = at-at-loop .before .before in
+    let x = s .args in
+    sym (at-at-loop .loop .inv ∙ any-end (names (x .t .now) (x .id)) (x .r) (at-at-loop .loop .q) (c .loop-test .left))
 
 pub named-in-earlier-spec : {M : Type 1} → statement M
 named-in-earlier-spec =

@@ -6,6 +6,13 @@ use Rattle.loader.specs.Shown.{verdictOf}
 use Rattle.kernel.proofs.load.Statement.{statement}
 use Rattle.kernel.proofs.load.Tie as tie
 
+-- the points on the way: from each the one before it that an answer names
+abbrev from-enum-told : tie.After-enum-told → tie.After-judge
+from-enum-told c = c .before .before
+
+abbrev from-enum-told2 : tie.After-enum-told2 → tie.After-judge
+from-enum-told2 c = c .before .before
+
 judge-requires : tie.Need-judge-requires
 judge-requires c κs = search needs
 
@@ -24,14 +31,18 @@ zero-requires c κs = search needs
 returns : tie.Need-returns
 unfolding accepts
 returns c =
-    let verdict = sym (c .before .before .before .judge .ensures) ∙ ap verdictOf (c .before .enum-told .given .1) in
-    record { verdict = c .before .before .before .judge .ensures; state = c .loaded .ensures ∙ (rw (ap isAccepted verdict)) }
+    let at-enum-told = c .before in
+    let at-judge = from-enum-told at-enum-told in
+    let verdict = sym (at-judge .judge .ensures) ∙ ap verdictOf (at-enum-told .enum-told .given .1) in
+    record { verdict = at-judge .judge .ensures; state = c .loaded .ensures ∙ (rw (ap isAccepted verdict)) }
 
 returns-2 : tie.Need-returns-2
 unfolding accepts
 returns-2 c =
-    let verdict = sym (c .before .before .before .judge .ensures) ∙ ap verdictOf (c .before .enum-told2 .given .1) in
-    record { verdict = c .before .before .before .judge .ensures; state = c .zero .ensures ∙ (rw (ap isAccepted verdict)) }
+    let at-enum-told2 = c .before in
+    let at-judge = from-enum-told2 at-enum-told2 in
+    let verdict = sym (at-judge .judge .ensures) ∙ ap verdictOf (at-enum-told2 .enum-told2 .given .1) in
+    record { verdict = at-judge .judge .ensures; state = c .zero .ensures ∙ (rw (ap isAccepted verdict)) }
 
 pub load-spec : {M : Type 1} → statement M
 load-spec =

@@ -19,8 +19,9 @@ beyond-requires c κs = search needs
 returns-2 : tie.Need-returns-2
 unfolding countFault
 returns-2 c =
-    let known = c .before .before .before in
-    rw (← known .kind .ensures, c .before .if2 .taken, ← known .before .before .pre .ported, ← c .beyond .ensures)
+    let at-then2 = c .before in
+    let known = at-then2 .before .before in
+    rw (← known .kind .ensures, at-then2 .if2 .taken, ← known .before .before .pre .ported, ← c .beyond .ensures)
 
 beyond-requires-2 : tie.Need-beyond-requires-2
 beyond-requires-2 c κs = search needs
@@ -28,11 +29,13 @@ beyond-requires-2 c κs = search needs
 returns-3 : tie.Need-returns-3
 unfolding countFault
 returns-3 c =
-    let known = c .before .before .before in
+    let at-else2 = c .before in
+    let at-else1 = at-else2 .before in
+    let known = at-else1 .before in
     rw (
       ← known .kind .ensures,
-      ne-eqb _ 1 (c .before .before .if1 .left),
-      ne-eqb _ 2 (c .before .if2 .left),
+      ne-eqb _ 1 (at-else1 .if1 .left),
+      ne-eqb _ 2 (at-else2 .if2 .left),
       ← known .before .before .pre .channeled,
       ← c .beyond2 .ensures,
     )

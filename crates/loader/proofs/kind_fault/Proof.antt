@@ -23,7 +23,10 @@ below-before-requires c κs = search needs
 returns : tie.Need-returns
 unfolding kindFault
 returns c =
-    let test = c .before .between .ensures ∙ ap (between 1 3) (c .before .before .wide .ensures ∙ c .before .before .before .kind .ensures) in
+    let at-between = c .before in
+    let at-wide = at-between .before in
+    let at-kind = at-wide .before in
+    let test = at-between .between .ensures ∙ ap (between 1 3) (at-wide .wide .ensures ∙ at-kind .kind .ensures) in
     rw (fails test (c .if1 .taken)) (c .if1 .taken)
 
 returns-2 : tie.Need-returns-2

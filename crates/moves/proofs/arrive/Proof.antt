@@ -13,6 +13,25 @@ use borrow.Author.Needs.{needs}
 use Rattle.moves.proofs.arrive.Statement.{statement}
 use Rattle.moves.proofs.arrive.Tie as tie
 
+-- the points on the way: from each the one before it that an answer names
+abbrev from-number : tie.After-number → tie.Start
+from-number c = c .before .before .before .before .before
+
+abbrev from-store : tie.After-store → tie.Else1
+from-store c = c .before .before .before
+
+abbrev from-enum-told : tie.After-enum-told → tie.After-store
+from-enum-told c = c .before .before .before .before .before .before
+
+abbrev from-set-number : tie.After-set-number → tie.After-enum-told
+from-set-number c = c .before .before
+
+abbrev from-slice-known5 : tie.After-slice-known5 → tie.After-set-number
+from-slice-known5 c = c .before .before
+
+abbrev from-enum-told2 : tie.After-enum-told2 → tie.After-store
+from-enum-told2 c = c .before .before .before .before .before .before
+
 number-requires : tie.Need-number-requires
 number-requires c κs = search needs
 
@@ -21,9 +40,11 @@ same-length c = search needs
 
 returns : tie.Need-returns
 returns c =
-    let a = c .before .before .before .before .before .before .args in
+    let at-number = c .before in
+    let s = from-number at-number in
+    let a = s .args in
     let q = portAt (a .numbers .now) (a .bytes .now) (a .k) in
-    let unmade : q .created ≡ 0 = omega (arith, c .if1 .taken, c .before .number .ensures, created-is (a .numbers .now) (a .bytes .now) (a .k)) in
+    let unmade : q .created ≡ 0 = omega (arith, c .if1 .taken, at-number .number .ensures, created-is (a .numbers .now) (a .bytes .now) (a .k)) in
     put-is (put-kept (a .numbers .now) (a .bytes .now) (a .k)) (sym (arrived-uncreated (a .time) (rowOf (a .row)) (written (lettered (a .letter .now) (a .size))) q unmade))
 
 store-requires : tie.Need-store-requires
@@ -46,11 +67,17 @@ same-length-3 c = search needs
 
 returns-2 : tie.Need-returns-2
 returns-2 c =
-    let a = c .before .before .before .before .before .before .before .before .before .before .before .before .before .before .before .before .before .before .before .args in
+    let at-set-number = from-slice-known5 c in
+    let at-enum-told = from-set-number at-set-number in
+    let at-store = from-enum-told at-enum-told in
+    let at-else1 = from-store at-store in
+    let at-number = at-else1 .before in
+    let s = from-number at-number in
+    let a = s .args in
     let q = portAt (a .numbers .now) (a .bytes .now) (a .k) in
-    let made : q .created ≡ 1 = omega (arith, c .before .before .before .before .before .before .before .before .before .before .before .before .before .if1 .left, c .before .before .before .before .before .before .before .before .before .before .before .before .before .before .number .ensures, created-is (a .numbers .now) (a .bytes .now) (a .k), c .before .before .before .before .before .before .before .before .before .before .before .before .before .before .before .before .before .before .before .pre .0 .port .marked) in
-    let sampling : rowOf (a .row) .mode ≡ 0 = ap modeOf (c .before .before .before .before .enum-told .given .1) in
-    put-is (put-stamped {q = withQueue q (stored (rowOf (a .row)) (q .queue) (written (lettered (a .letter .now) (a .size))))} (c .before .before .before .before .before .before .before .before .before .before .store .ensures) (c .before .before .set-number .ensures)) (sym (arrived-sampling (a .time) (rowOf (a .row)) (written (lettered (a .letter .now) (a .size))) q made sampling))
+    let made : q .created ≡ 1 = omega (arith, at-else1 .if1 .left, at-number .number .ensures, created-is (a .numbers .now) (a .bytes .now) (a .k), s .pre .0 .port .marked) in
+    let sampling : rowOf (a .row) .mode ≡ 0 = ap modeOf (at-enum-told .enum-told .given .1) in
+    put-is (put-stamped {q = withQueue q (stored (rowOf (a .row)) (q .queue) (written (lettered (a .letter .now) (a .size))))} (at-store .store .ensures) (at-set-number .set-number .ensures)) (sym (arrived-sampling (a .time) (rowOf (a .row)) (written (lettered (a .letter .now) (a .size))) q made sampling))
 
 same-length-4 : tie.Need-same-length-4
 same-length-4 c = search needs
@@ -60,11 +87,15 @@ same-length-5 c = search needs
 
 returns-3 : tie.Need-returns-3
 returns-3 c =
-    let a = c .before .before .before .before .before .before .before .before .before .before .before .before .before .before .before .args in
+    let at-store = from-enum-told2 c in
+    let at-else1 = from-store at-store in
+    let at-number = at-else1 .before in
+    let s = from-number at-number in
+    let a = s .args in
     let q = portAt (a .numbers .now) (a .bytes .now) (a .k) in
-    let made : q .created ≡ 1 = omega (arith, c .before .before .before .before .before .before .before .before .before .if1 .left, c .before .before .before .before .before .before .before .before .before .before .number .ensures, created-is (a .numbers .now) (a .bytes .now) (a .k), c .before .before .before .before .before .before .before .before .before .before .before .before .before .before .before .pre .0 .port .marked) in
+    let made : q .created ≡ 1 = omega (arith, at-else1 .if1 .left, at-number .number .ensures, created-is (a .numbers .now) (a .bytes .now) (a .k), s .pre .0 .port .marked) in
     let queuing : rowOf (a .row) .mode ≡ 1 = ap modeOf (c .enum-told2 .given .1) in
-    put-is {q = withQueue q (stored (rowOf (a .row)) (q .queue) (written (lettered (a .letter .now) (a .size))))} (c .before .before .before .before .before .before .store .ensures) (sym (arrived-queuing (a .time) (rowOf (a .row)) (written (lettered (a .letter .now) (a .size))) q made queuing))
+    put-is {q = withQueue q (stored (rowOf (a .row)) (q .queue) (written (lettered (a .letter .now) (a .size))))} (at-store .store .ensures) (sym (arrived-queuing (a .time) (rowOf (a .row)) (written (lettered (a .letter .now) (a .size))) q made queuing))
 
 pub arrive-spec : {M : Type 1} → statement M
 arrive-spec =

@@ -26,26 +26,46 @@ Inv-loop t lay numbers₀ bytes₀ time c letter size n j₀ numbers bytes j =
 abbrev μ-loop : tie.MeasureT-loop
 μ-loop t lay numbers₀ bytes₀ time c letter size n j₀ numbers bytes j = n - j
 
+-- the points on the way: from each the one before it that an answer names
+abbrev from-struct-known : tie.After-struct-known Inv-loop μ-loop → tie.Start Inv-loop μ-loop
+from-struct-known c = c .before .before .before .before .before
+
+abbrev from-destination-count : tie.After-destination-count Inv-loop μ-loop → tie.Start Inv-loop μ-loop
+from-destination-count c = c .before .before .before .before .before .before
+
+abbrev from-hand-on-arg2 : tie.After-hand-on-arg2 Inv-loop μ-loop → tie.In-loop Inv-loop μ-loop
+from-hand-on-arg2 c = c .before .before
+
+abbrev from-hand-on : tie.After-hand-on Inv-loop μ-loop → tie.In-loop Inv-loop μ-loop
+from-hand-on c = c .before .before .before
+
+abbrev from-slice-known4 : tie.After-slice-known4 Inv-loop μ-loop → tie.After-hand-on Inv-loop μ-loop
+from-slice-known4 c = c .before .before .before .before
+
 add-destination-count : tie.Need-add-destination-count Inv-loop μ-loop
 add-destination-count c =
-    let a = c .before .before .before .before .before .args in
-    omega (arith, few-records (c .before .before .before .before .before .pre .0) (a .c) (c .before .before .before .before .before .pre .1 .0))
+    let s = from-struct-known c in
+    let a = s .args in
+    omega (arith, few-records (s .pre .0) (a .c) (s .pre .1 .0))
 
 destination-count-requires : tie.Need-destination-count-requires Inv-loop μ-loop
 destination-count-requires c κs =
-    let a = c .before .before .before .before .before .args in
-    (first-channel (c .before .before .before .before .before .pre .0) (a .c) (c .before .before .before .before .before .pre .1 .0), its-record (c .before .before .before .before .before .pre .0) (a .c) (c .before .before .before .before .before .pre .1 .0))
+    let s = from-struct-known c in
+    let a = s .args in
+    (first-channel (s .pre .0) (a .c) (s .pre .1 .0), its-record (s .pre .0) (a .c) (s .pre .1 .0))
 
 cast-n : tie.Need-cast-n Inv-loop μ-loop
 cast-n c =
-    let a = c .before .before .before .before .before .before .args in
-    omega (arith, c .destination-count .ensures, few-destinations (c .before .before .before .before .before .before .pre .0) (a .c) (c .before .before .before .before .before .before .pre .1 .0))
+    let s = from-destination-count c in
+    let a = s .args in
+    omega (arith, c .destination-count .ensures, few-destinations (s .pre .0) (a .c) (s .pre .1 .0))
 
 loop-holds : tie.Need-loop-holds Inv-loop μ-loop
 loop-holds c =
-    let a = c .before .before .before .before .before .before .args in (
+    let s = from-destination-count c in
+    let a = s .args in (
       c .destination-count .ensures,
-      c .before .before .before .before .before .before .pre .0,
+      s .pre .0,
       refl,
       refl,
       λ clock modes. ap (λ i. delivered (a .t .now) (λ k. a .time) (a .c) (written (lettered (a .letter .now) (a .size))) i 0 (shown (a .t .now) clock modes (a .numbers .now) (a .bytes .now))) (sub-zero (c .destination-count .result)),
@@ -53,8 +73,11 @@ loop-holds c =
 
 hand-on-requires : tie.Need-hand-on-requires Inv-loop μ-loop
 hand-on-requires c κs =
-    let l = c .before .before .before .loop in
-    (l .inv .1, ((c .before .before .before .before .before .before .before .before .before .before .pre .1 .0, omega (arith, l .inv .0, c .before .before .loop-test .taken)), c .before .before .before .before .before .before .before .before .before .before .pre .1 .1))
+    let at-in-loop = from-hand-on-arg2 c in
+    let at-at-loop = at-in-loop .before in
+    let s = from-destination-count (at-at-loop .before) in
+    let l = at-at-loop .loop in
+    (l .inv .1, ((s .pre .1 .0, omega (arith, l .inv .0, at-in-loop .loop-test .taken)), s .pre .1 .1))
 
 add-j : tie.Need-add-j Inv-loop μ-loop
 add-j c = search needs
@@ -64,17 +87,22 @@ loop-less c = search needs
 
 loop-again : tie.Need-loop-again Inv-loop μ-loop
 loop-again c =
-    let l = c .before .before .before .before .before .before .before .before .loop in
-    let a = c .before .before .before .before .before .before .before .before .before .before .before .before .before .before .before .args in
-    let n = c .before .before .before .before .before .before .before .before .before .destination-count .result in
-    let more : l .j < n = c .before .before .before .before .before .before .before .loop-test .taken in
+    let at-hand-on = from-slice-known4 c in
+    let at-in-loop = from-hand-on at-hand-on in
+    let at-at-loop = at-in-loop .before in
+    let at-destination-count = at-at-loop .before in
+    let s = from-destination-count at-destination-count in
+    let l = at-at-loop .loop in
+    let a = s .args in
+    let n = at-destination-count .destination-count .result in
+    let more : l .j < n = at-in-loop .loop-test .taken in
     let few : l .j < destinations (a .t .now) (a .c) = omega (arith, l .inv .0, more) in
-    let put = c .before .before .before .before .hand-on in (
+    let put = at-hand-on .hand-on in (
       l .inv .0,
-      held-on (l .inv .1) (a .c) (c .before .before .before .before .before .before .before .before .before .before .before .before .before .before .before .pre .1 .0) (l .j) few (a .time) (c .before .before .before .before .before .before .before .before .before .before .before .before .before .before .before .pre .1 .1) (put .ensures) (put .kept .1 .1 .0) (put .kept .1 .1 .1 .0),
+      held-on (l .inv .1) (a .c) (s .pre .1 .0) (l .j) few (a .time) (s .pre .1 .1) (put .ensures) (put .kept .1 .1 .0) (put .kept .1 .1 .1 .0),
       put .kept .1 .1 .0 ∙ l .inv .2,
       put .kept .1 .1 .1 .0 ∙ l .inv .3,
-      λ clock modes. turn (l .inv .1) (a .c) (c .before .before .before .before .before .before .before .before .before .before .before .before .before .before .before .pre .1 .0) (l .j) few (a .time) (written (lettered (a .letter .now) (a .size))) (put .ensures) n more clock modes ∙ l .inv .4 clock modes,
+      λ clock modes. turn (l .inv .1) (a .c) (s .pre .1 .0) (l .j) few (a .time) (written (lettered (a .letter .now) (a .size))) (put .ensures) n more clock modes ∙ l .inv .4 clock modes,
     )
 
 same-length : tie.Need-same-length Inv-loop μ-loop
@@ -84,10 +112,14 @@ same-length-2 : tie.Need-same-length-2 Inv-loop μ-loop
 same-length-2 c = search needs
 
 returns : tie.Need-returns Inv-loop μ-loop
-returns c = λ clock modes.
-    let l = c .before .loop in
-    let a = c .before .before .before .before .before .before .before .before .args in
-    let n = c .before .before .destination-count .result in
+returns c =
+    let at-at-loop = c .before in
+    let at-destination-count = at-at-loop .before in
+    let s' = from-destination-count at-destination-count in
+    λ clock modes.
+    let l = at-at-loop .loop in
+    let a = s' .args in
+    let n = at-destination-count .destination-count .result in
     let none : n - l .j ≡ 0 = omega (arith, c .loop-test .left) in
     let m = written (lettered (a .letter .now) (a .size)) in
     let s = shown (a .t .now) clock modes in

@@ -5,30 +5,64 @@ use borrow.Author.Needs.{needs}
 use Rattle.moves.proofs.transmit.Statement.{statement}
 use Rattle.moves.proofs.transmit.Tie as tie
 
+-- the points on the way: from each the one before it that an answer names
+abbrev from-slice-known2 : tie.After-slice-known2 → tie.Start
+from-slice-known2 c = c .before .before .before
+
+abbrev from-struct-known : tie.After-struct-known → tie.Start
+from-struct-known c = c .before .before .before .before
+
+abbrev from-source-port : tie.After-source-port → tie.Start
+from-source-port c = c .before .before .before .before .before
+
+abbrev from-waiting : tie.After-waiting → tie.After-source-port
+from-waiting c = c .before .before
+
+abbrev from-take-oldest-arg2 : tie.After-take-oldest-arg2 → tie.Else1
+from-take-oldest-arg2 c = c .before .before
+
+abbrev from-take-oldest : tie.After-take-oldest → tie.Else1
+from-take-oldest c = c .before .before .before
+
+abbrev from-deliver-arg4 : tie.After-deliver-arg4 → tie.After-take-oldest
+from-deliver-arg4 c = c .before .before .before .before .before .before .before
+
+abbrev from-deliver : tie.After-deliver → tie.After-take-oldest
+from-deliver c = c .before .before .before .before .before .before .before .before
+
+abbrev from-done : tie.After-done → tie.After-deliver
+from-done c = c .before .before .before .before .before
+
 cast-doer : tie.Need-cast-doer
 cast-doer c =
-    let a = c .before .before .before .args in
-    omega (arith, few-channels (c .before .before .before .pre .0) (a .c) (c .before .before .before .pre .1))
+    let s = from-slice-known2 c in
+    let a = s .args in
+    omega (arith, few-channels (s .pre .0) (a .c) (s .pre .1))
 
 add-doer : tie.Need-add-doer
 add-doer c =
-    let a = c .before .before .before .args in
-    omega (arith, few-channels (c .before .before .before .pre .0) (a .c) (c .before .before .before .pre .1))
+    let s = from-slice-known2 c in
+    let a = s .args in
+    omega (arith, few-channels (s .pre .0) (a .c) (s .pre .1))
 
 add-source-port : tie.Need-add-source-port
 add-source-port c =
-    let a = c .before .before .before .before .args in
-    omega (arith, few-records (c .before .before .before .before .pre .0) (a .c) (c .before .before .before .before .pre .1))
+    let s = from-struct-known c in
+    let a = s .args in
+    omega (arith, few-records (s .pre .0) (a .c) (s .pre .1))
 
 source-port-requires : tie.Need-source-port-requires
 source-port-requires c κs =
-    let a = c .before .before .before .before .args in
-    (first-channel (c .before .before .before .before .pre .0) (a .c) (c .before .before .before .before .pre .1), its-record (c .before .before .before .before .pre .0) (a .c) (c .before .before .before .before .pre .1))
+    let s = from-struct-known c in
+    let a = s .args in
+    (first-channel (s .pre .0) (a .c) (s .pre .1), its-record (s .pre .0) (a .c) (s .pre .1))
 
 waiting-requires : tie.Need-waiting-requires
 waiting-requires c κs =
-    let a = c .before .before .before .before .before .before .args in
-    let lent = source-lent (c .before .before .before .before .before .before .pre .0) (a .c) (c .before .before .before .before .before .before .pre .1) (c .before .source-port .ensures) in
+    let at-source-port = c .before in
+    let s = from-source-port at-source-port in
+    let a = s .args in
+    let lent = source-lent (s .pre .0) (a .c) (s .pre .1) (at-source-port .source-port .ensures) in
     (lent .rows, lent .there)
 
 refusal-requires : tie.Need-refusal-requires
@@ -39,25 +73,35 @@ same-length c = search needs
 
 returns : tie.Need-returns
 returns c =
-    let s = c .before .before .before .before .before .before .before .before .before in
-    unmoved (s .pre .0) (s .args .c) (s .pre .1) (c .before .before .before .before .source-port .ensures) (c .before .before .waiting .ensures) (s .args .time) (c .before .if1 .taken) (c .refusal .ensures)
+    let at-then1 = c .before in
+    let at-waiting = at-then1 .before in
+    let at-source-port = from-waiting at-waiting in
+    let s = from-source-port at-source-port in
+    unmoved (s .pre .0) (s .args .c) (s .pre .1) (at-source-port .source-port .ensures) (at-waiting .waiting .ensures) (s .args .time) (at-then1 .if1 .taken) (c .refusal .ensures)
 
 take-oldest-requires : tie.Need-take-oldest-requires
 take-oldest-requires c κs =
-    let s = c .before .before .before .before .before .before .before .before .before .before in
-    let found = c .before .before .before .before .before .source-port .ensures in
-    let counted = c .before .before .before .waiting .ensures in
-    let some = c .before .before .if1 .left in
+    let at-else1 = from-take-oldest-arg2 c in
+    let at-waiting = at-else1 .before in
+    let at-source-port = from-waiting at-waiting in
+    let s = from-source-port at-source-port in
+    let found = at-source-port .source-port .ensures in
+    let counted = at-waiting .waiting .ensures in
+    let some = at-else1 .if1 .left in
     ((source-lent (s .pre .0) (s .args .c) (s .pre .1) found, source-sized (s .pre .0) (s .args .c) (s .pre .1) found), source-some (s .pre .0) (s .args .c) (s .pre .1) found counted some)
 
 deliver-requires : tie.Need-deliver-requires
 deliver-requires c κs =
-    let s = c .before .before .before .before .before .before .before .before .before .before .before .before .before .before .before .before .before .before in
-    let found = c .before .before .before .before .before .before .before .before .before .before .before .before .before .source-port .ensures in
-    let counted = c .before .before .before .before .before .before .before .before .before .before .before .waiting .ensures in
-    let some = c .before .before .before .before .before .before .before .before .before .before .if1 .left in
-    let gone = c .before .before .before .before .before .before .before .take-oldest .ensures in
-    (source-held (s .pre .0) (s .args .c) (s .pre .1) found counted some gone (c .before .before .before .before .before .before .before .take-oldest .kept .0), (s .pre .1, source-carried (s .pre .0) (s .args .c) (s .pre .1) found counted some gone))
+    let at-take-oldest = from-deliver-arg4 c in
+    let at-else1 = from-take-oldest at-take-oldest in
+    let at-waiting = at-else1 .before in
+    let at-source-port = from-waiting at-waiting in
+    let s = from-source-port at-source-port in
+    let found = at-source-port .source-port .ensures in
+    let counted = at-waiting .waiting .ensures in
+    let some = at-else1 .if1 .left in
+    let gone = at-take-oldest .take-oldest .ensures in
+    (source-held (s .pre .0) (s .args .c) (s .pre .1) found counted some gone (at-take-oldest .take-oldest .kept .0), (s .pre .1, source-carried (s .pre .0) (s .args .c) (s .pre .1) found counted some gone))
 
 done-requires : tie.Need-done-requires
 done-requires c κs = search needs
@@ -70,11 +114,16 @@ same-length-3 c = search needs
 
 returns-2 : tie.Need-returns-2
 returns-2 c =
-    let s = c .before .before .before .before .before .before .before .before .before .before .before .before .before .before .before .before .before .before .before .before .before .before .before .before in
-    let last = c .before .before .before .before .before .deliver .last in
-    let counted = c .before .before .before .before .before .before .before .before .before .before .before .before .before .before .before .before .before .waiting .ensures in
-    let some = c .before .before .before .before .before .before .before .before .before .before .before .before .before .before .before .before .if1 .left in
-    moved (s .pre .0) (s .args .c) (s .pre .1) (c .before .before .before .before .before .before .before .before .before .before .before .before .before .before .before .before .before .before .before .source-port .ensures) counted some (c .before .before .before .before .before .before .before .before .before .before .before .before .before .take-oldest .ensures) (s .args .time) (last .1 .1 .0) (last .1 .1 .1 .0) (c .before .before .before .before .before .deliver .ensures) (c .done .ensures)
+    let at-deliver = from-done c in
+    let at-take-oldest = from-deliver at-deliver in
+    let at-else1 = from-take-oldest at-take-oldest in
+    let at-waiting = at-else1 .before in
+    let at-source-port = from-waiting at-waiting in
+    let s = from-source-port at-source-port in
+    let last = at-deliver .deliver .last in
+    let counted = at-waiting .waiting .ensures in
+    let some = at-else1 .if1 .left in
+    moved (s .pre .0) (s .args .c) (s .pre .1) (at-source-port .source-port .ensures) counted some (at-take-oldest .take-oldest .ensures) (s .args .time) (last .1 .1 .0) (last .1 .1 .1 .0) (at-deliver .deliver .ensures) (c .done .ensures)
 
 pub transmit-spec : {M : Type 1} → statement M
 transmit-spec =

@@ -20,6 +20,10 @@ Inv-loop b at size bytes₀ n i₀ bytes i = (i ≤ n) × (length bytes ≡ 64) 
 abbrev μ-loop : tie.MeasureT-loop
 μ-loop b at size bytes₀ n i₀ bytes i = n - i
 
+-- the points on the way: from each the one before it that an answer names
+abbrev from-shared-slice-known : tie.After-shared-slice-known Inv-loop μ-loop → tie.At-loop Inv-loop μ-loop
+from-shared-slice-known c = c .before .before
+
 loop-holds : tie.Need-loop-holds Inv-loop μ-loop
 loop-holds c = (search needs, refl, refl)
 
@@ -40,13 +44,14 @@ loop-less c = omega arith
 
 loop-again : tie.Need-loop-again Inv-loop μ-loop
 loop-again c =
-    let start = c .before .before .before in
+    let at-at-loop = from-shared-slice-known c in
+    let start = at-at-loop .before in
     let source : List ℕ = drop (start .args .at) (now (start .args .b)) in
-    let i : ℕ = c .before .before .loop .i in (
+    let i : ℕ = at-at-loop .loop .i in (
       search needs,
       simp length-set (omega arith),
       paste-turn (zeros 64) 0 source i
-          (c .before .before .loop .inv .2)
+          (at-at-loop .loop .inv .2)
           (sym (zero-add i))
           (sym (getD-drop (start .args .at) (now (start .args .b)) i 0))
           (omega arith)
@@ -55,13 +60,14 @@ loop-again c =
 
 returns : tie.Need-returns Inv-loop μ-loop
 returns c =
-    let start = c .before .before in
+    let at-at-loop = c .before in
+    let start = at-at-loop .before in
     let size : ℕ = start .args .size in
     let source : List ℕ = drop (start .args .at) (now (start .args .b)) in
-    let all : c .before .loop .i ≡ size = omega arith in
+    let all : at-at-loop .loop .i ≡ size = omega arith in
     let long : size ≤ length source = simp length-drop (omega arith) in
-    let copied : c .before .loop .bytes ≡ filled 64 (take size source) =
-    c .before .loop .inv .2 ∙ rw all (filled-pasted 64 source size (omega arith) long)
+    let copied : at-at-loop .loop .bytes ≡ filled 64 (take size source) =
+    at-at-loop .loop .inv .2 ∙ rw all (filled-pasted 64 source size (omega arith) long)
     in
     let counted : length (take size source) ≡ size = length-take-le size source long in
     simp (copied, counted)

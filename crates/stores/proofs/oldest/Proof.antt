@@ -10,6 +10,10 @@ use borrow.Author.Needs.{needs}
 use Rattle.stores.proofs.oldest.Statement.{statement}
 use Rattle.stores.proofs.oldest.Tie as tie
 
+-- the points on the way: from each the one before it that an answer names
+abbrev from-letter-of : tie.After-letter-of → tie.After-slot
+from-letter-of c = c .before .before .before .before .before
+
 slot-requires : tie.Need-slot-requires
 slot-requires c κs = search needs
 
@@ -36,9 +40,10 @@ letter-of-requires c κs =
 returns : tie.Need-returns
 unfolding oldestOf
 returns c =
-    let start = c .before .before .before .before .before .before in
+    let at-slot = from-letter-of c in
+    let start = at-slot .before in
     let st = start .args .t1 in
-    let here = c .before .before .before .before .before .slot .ensures in
+    let here = at-slot .slot .ensures in
     c .letter-of .ensures
     ∙ ap (λ at. letterOf (take (getD (st .lengths) at 0) (drop (64 * at) (st .bytes)))) here
     ∙ sym (ap letterOf (message-stood st (search needs) (slotOf st 0) (omega arith) (start .pre .1)))

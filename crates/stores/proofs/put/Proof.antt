@@ -17,6 +17,10 @@ Inv-loop bytes₀ first letter i₀ bytes i = (i ≤ 64) × (length bytes ≡ 51
 abbrev μ-loop : tie.MeasureT-loop
 μ-loop bytes₀ first letter i₀ bytes i = 64 - i
 
+-- the points on the way: from each the one before it that an answer names
+abbrev from-shared-slice-known : tie.After-shared-slice-known Inv-loop μ-loop → tie.At-loop Inv-loop μ-loop
+from-shared-slice-known c = c .before .before
+
 loop-holds : tie.Need-loop-holds Inv-loop μ-loop
 loop-holds c = (search needs, search needs, paste-zero (now (c .args .bytes)) (c .args .first) (now (c .args .letter)))
 
@@ -37,13 +41,14 @@ loop-less c = omega arith
 
 loop-again : tie.Need-loop-again Inv-loop μ-loop
 loop-again c =
-    let start = c .before .before .before in
+    let at-at-loop = from-shared-slice-known c in
+    let start = at-at-loop .before in
     let wide : length (now (start .args .bytes)) ≡ 512 = search needs in
     let long : length (now (start .args .letter)) ≡ 64 = search needs in (
       search needs,
       simp length-set (omega arith),
-      paste-turn (now (start .args .bytes)) (start .args .first) (now (start .args .letter)) (c .before .before .loop .i)
-          (c .before .before .loop .inv .2)
+      paste-turn (now (start .args .bytes)) (start .args .first) (now (start .args .letter)) (at-at-loop .loop .i)
+          (at-at-loop .loop .inv .2)
           refl
           refl
           (omega arith)
@@ -52,10 +57,11 @@ loop-again c =
 
 returns : tie.Need-returns Inv-loop μ-loop
 returns c =
-    let start = c .before .before in
+    let at-at-loop = c .before in
+    let start = at-at-loop .before in
     let long : length (now (start .args .letter)) ≡ 64 = search needs in
-    let all : c .before .loop .i ≡ length (now (start .args .letter)) = omega arith in
-    c .before .loop .inv .2
+    let all : at-at-loop .loop .i ≡ length (now (start .args .letter)) = omega arith in
+    at-at-loop .loop .inv .2
     ∙ rw all (paste-pasted (now (start .args .bytes)) (start .args .first) (now (start .args .letter)))
 
 pub put-spec : {M : Type 1} → statement M

@@ -34,6 +34,16 @@ Inv-loop st bytes₀ lengths₀ i₀ bytes lengths i = (i ≤ st .count) × (lai
 abbrev μ-loop : tie.MeasureT-loop
 μ-loop st bytes₀ lengths₀ i₀ bytes lengths i = st .count - i
 
+-- the points on the way: from each the one before it that an answer names
+abbrev from-letter-of : tie.After-letter-of Inv-loop μ-loop → tie.At-loop Inv-loop μ-loop
+from-letter-of c = c .before .before .before .before .before .before .before
+
+abbrev from-put-arg2 : tie.After-put-arg2 Inv-loop μ-loop → tie.After-letter-of Inv-loop μ-loop
+from-put-arg2 c = c .before .before .before .before
+
+abbrev from-put : tie.After-put Inv-loop μ-loop → tie.After-letter-of Inv-loop μ-loop
+from-put c = c .before .before .before .before .before
+
 loop-holds : tie.Need-loop-holds Inv-loop μ-loop
 unfolding noMessages
 loop-holds c = (search needs, sym layOut-none)
@@ -73,7 +83,7 @@ mul-put c = search needs
 
 put-requires : tie.Need-put-requires Inv-loop μ-loop
 put-requires c κs =
-    let head = c .before .before .before .before .before .before .before .before .before .before .before in
+    let head = from-letter-of (from-put-arg2 c) in
     let queue : List Message = queueOf (head .before .args .t1) in
     let wide : length (head .loop .bytes) ≡ 512 =
     ap (λ st. length (st .bytes)) (head .loop .inv .1) ∙ layOut-bytes (take (head .loop .i) queue)
@@ -95,12 +105,12 @@ loop-less c = search needs
 
 loop-again : tie.Need-loop-again Inv-loop μ-loop
 loop-again c =
-    let head = c .before .before .before .before .before .before .before .before .before .before .before .before in
+    let read = from-put c in
+    let head = from-letter-of read in
     let st = head .before .args .t1 in
     let i : ℕ = head .loop .i in
     let few : st .count ≤ 8 = head .before .pre .few in
     let more : i < st .count = omega arith in
-    let read = c .before .before .before .before .before in
     let letter : read .letter-of .result ≡ letterOf (messageIn st (slotOf st i)) =
     read .letter-of .ensures
     ∙ ap (λ at. letterOf (take (getD (st .lengths) at 0) (drop (64 * at) (st .bytes)))) (read .before .before .before .before .before .slot .ensures)
@@ -115,11 +125,13 @@ loop-again c =
 
 returns : tie.Need-returns Inv-loop μ-loop
 returns c =
-    let st = c .before .before .args .t1 in
-    let all : st .count ≡ c .before .loop .i = omega arith in
-    let whole : c .before .loop .i ≡ length (queueOf st) = omega (arith, queue-length st) in
-    ap (laid (c .before .loop .bytes) (c .before .loop .lengths)) all
-    ∙ c .before .loop .inv .1
+    let at-at-loop = c .before in
+    let s = at-at-loop .before in
+    let st = s .args .t1 in
+    let all : st .count ≡ at-at-loop .loop .i = omega arith in
+    let whole : at-at-loop .loop .i ≡ length (queueOf st) = omega (arith, queue-length st) in
+    ap (laid (at-at-loop .loop .bytes) (at-at-loop .loop .lengths)) all
+    ∙ at-at-loop .loop .inv .1
     ∙ ap layOut (rw whole (take-length (queueOf st)))
 
 pub settled-spec : {M : Type 1} → statement M

@@ -5,19 +5,33 @@ use Rattle.kernel.proofs.Laws
 use Rattle.kernel.proofs.reader.is_handed.Statement.{statement}
 use Rattle.kernel.proofs.reader.is_handed.Tie as tie
 
+-- the points on the way: from each the one before it that an answer names
+abbrev from-then1 : tie.Then1 → tie.Start
+from-then1 c = c .before .before
+
+abbrev from-else1 : tie.Else1 → tie.Start
+from-else1 c = c .before .before
+
+abbrev from-then3 : tie.Then3 → tie.Else2
+from-then3 c = c .before .before
+
+abbrev from-else3 : tie.Else3 → tie.Else2
+from-else3 c = c .before .before
+
 returns : tie.Need-returns
 returns c =
-    let s = c .before .before in
+    let s = from-then1 c in
     let b = s .args .answers .now in
     let n = s .args .number in
     sym (Laws.torn b n (c .if1 .taken))
 
 returns-2 : tie.Need-returns-2
 returns-2 c =
-    let s = c .before .before .before in
+    let at-else1 = c .before in
+    let s = from-else1 at-else1 in
     let b = s .args .answers .now in
     let n = s .args .number in
-    sym (Laws.not-there b n (c .before .if1 .left) (c .if2 .taken))
+    sym (Laws.not-there b n (at-else1 .if1 .left) (c .if2 .taken))
 
 mul-if3 : tie.Need-mul-if3
 mul-if3 c = search needs
@@ -27,10 +41,12 @@ shared-slice-read-if3 c = search needs
 
 returns-3 : tie.Need-returns-3
 returns-3 c =
-    let s = c .before .before .before .before .before in
+    let at-else2 = from-then3 c in
+    let at-else1 = at-else2 .before in
+    let s = from-else1 at-else1 in
     let b = s .args .answers .now in
     let n = s .args .number in
-    sym (Laws.not-0 b n (c .before .before .before .if1 .left) (c .before .before .if2 .left) (c .if3 .taken))
+    sym (Laws.not-0 b n (at-else1 .if1 .left) (at-else2 .if2 .left) (c .if3 .taken))
 
 mul-word32 : tie.Need-mul-word32
 mul-word32 c = search needs
@@ -43,10 +59,13 @@ word32-requires c κs = search needs
 
 returns-4 : tie.Need-returns-4
 returns-4 c =
-    let s = c .before .before .before .before .before .before in
+    let at-else3 = c .before in
+    let at-else2 = from-else3 at-else3 in
+    let at-else1 = at-else2 .before in
+    let s = from-else1 at-else1 in
     let b = s .args .answers .now in
     let n = s .args .number in
-    rw (c .word32 .ensures) (sym (Laws.by-length b n (c .before .before .before .before .if1 .left) (c .before .before .before .if2 .left) (c .before .if3 .left)))
+    rw (c .word32 .ensures) (sym (Laws.by-length b n (at-else1 .if1 .left) (at-else2 .if2 .left) (at-else3 .if3 .left)))
 
 pub is-handed-spec : {M : Type 1} → statement M
 is-handed-spec =

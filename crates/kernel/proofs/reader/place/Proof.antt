@@ -14,15 +14,20 @@ use Rattle.kernel.proofs.reader.place.Tie as tie
 few-bytes : (c : tie.Start) → length (c .args .answers .now) < 2 ^ 64
 few-bytes c = search needs
 
+-- the points on the way: from each the one before it that an answer names
+abbrev from-is-handed : tie.After-is-handed → tie.Start
+from-is-handed c = c .before .before
+
 is-handed-requires : tie.Need-is-handed-requires
 is-handed-requires c κs = search needs
 
 returns : tie.Need-returns
 returns c =
-    let s = c .before .before .before in
+    let at-is-handed = c .before in
+    let s = from-is-handed at-is-handed in
     let b = s .args .answers .now in
     let n = s .args .number in
-    let e = Laws.none-handed b n (sym (c .before .is-handed .ensures) ∙ not-true _ (c .if1 .taken)) in
+    let e = Laws.none-handed b n (sym (at-is-handed .is-handed .ensures) ∙ not-true _ (c .if1 .taken)) in
     record { from = sym (ap (λ x. x .from) e); size = sym (ap (λ x. x .size) e) }
 
 -- a record that is handed out lies within the answers
@@ -33,16 +38,24 @@ inside : (c : tie.Else1) → c .before .before .before .args .number < length (c
 inside c = Laws.handed-there _ _ (is-there c)
 
 mul-t5 : tie.Need-mul-t5
-mul-t5 c = record { fits = omega (arith, inside c, few-bytes (c .before .before .before)) }
+mul-t5 c =
+    let s = from-is-handed (c .before) in
+    record { fits = omega (arith, inside c, few-bytes (s)) }
 
 add-t6 : tie.Need-add-t6
-add-t6 c = record { fits = omega (arith, inside c, few-bytes (c .before .before .before)) }
+add-t6 c =
+    let s = from-is-handed (c .before) in
+    record { fits = omega (arith, inside c, few-bytes (s)) }
 
 mul-word32 : tie.Need-mul-word32
-mul-word32 c = record { fits = omega (arith, inside c, few-bytes (c .before .before .before)) }
+mul-word32 c =
+    let s = from-is-handed (c .before) in
+    record { fits = omega (arith, inside c, few-bytes (s)) }
 
 add-word32 : tie.Need-add-word32
-add-word32 c = record { fits = omega (arith, inside c, few-bytes (c .before .before .before)) }
+add-word32 c =
+    let s = from-is-handed (c .before) in
+    record { fits = omega (arith, inside c, few-bytes (s)) }
 
 word32-requires : tie.Need-word32-requires
 word32-requires c κs = omega (arith, inside c)

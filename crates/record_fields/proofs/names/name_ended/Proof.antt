@@ -18,6 +18,13 @@ Inv-loop t at k₀ k = ended t at ≡ all (follows t at) (29 - k) k
 abbrev μ-loop : tie.MeasureT-loop
 μ-loop t at k₀ k = 29 - k
 
+-- the points on the way: from each the one before it that an answer names
+abbrev from-at-loop : tie.At-loop Inv-loop μ-loop → tie.Start Inv-loop μ-loop
+from-at-loop c = c .before .before
+
+abbrev from-may-follow : tie.After-may-follow Inv-loop μ-loop → tie.In-loop Inv-loop μ-loop
+from-may-follow c = c .before .before .before
+
 loop-holds : tie.Need-loop-holds Inv-loop μ-loop
 loop-holds c = search needs
 
@@ -41,10 +48,14 @@ may-follow-requires c κs = search needs
 
 returns : tie.Need-returns Inv-loop μ-loop
 returns c =
-    let given = c .before .before .before .before .before .before .before .args in
-    let at = c .before .before .before .before .before .loop in
-    let test = fails (rw add-one at (c .before .may-follow .ensures)) (c .if1 .taken) in
-    sym (at .inv ∙ all-stop (follows (given .t .now) (given .at)) 29 (at .k) (c .before .before .before .before .loop-test .taken) test)
+    let at-may-follow = c .before in
+    let at-in-loop = from-may-follow at-may-follow in
+    let at-at-loop = at-in-loop .before in
+    let s = from-at-loop at-at-loop in
+    let given = s .args in
+    let at = at-at-loop .loop in
+    let test = fails (rw add-one at (at-may-follow .may-follow .ensures)) (c .if1 .taken) in
+    sym (at .inv ∙ all-stop (follows (given .t .now) (given .at)) 29 (at .k) (at-in-loop .loop-test .taken) test)
 
 add-k : tie.Need-add-k Inv-loop μ-loop
 add-k c = search needs
@@ -54,15 +65,21 @@ loop-less c = search needs
 
 loop-again : tie.Need-loop-again Inv-loop μ-loop
 loop-again c =
-    let given = c .before .before .before .before .before .before .before .args in
-    let at = c .before .before .before .before .before .loop in
-    let test = holds (rw add-one at (c .before .may-follow .ensures)) (c .if1 .left) in
-    at .inv ∙ all-more (follows (given .t .now) (given .at)) 29 (at .k) (c .before .before .before .before .loop-test .taken) test
+    let at-may-follow = c .before in
+    let at-in-loop = from-may-follow at-may-follow in
+    let at-at-loop = at-in-loop .before in
+    let s = from-at-loop at-at-loop in
+    let given = s .args in
+    let at = at-at-loop .loop in
+    let test = holds (rw add-one at (at-may-follow .may-follow .ensures)) (c .if1 .left) in
+    at .inv ∙ all-more (follows (given .t .now) (given .at)) 29 (at .k) (at-in-loop .loop-test .taken) test
 
 returns-2 : tie.Need-returns-2 Inv-loop μ-loop
 returns-2 c =
-    let given = c .before .before .before .args in
-    sym (c .before .loop .inv ∙ all-end (follows (given .t .now) (given .at)) 29 (c .before .loop .k) (c .loop-test .left))
+    let at-at-loop = c .before in
+    let s = from-at-loop at-at-loop in
+    let given = s .args in
+    sym (at-at-loop .loop .inv ∙ all-end (follows (given .t .now) (given .at)) 29 (at-at-loop .loop .k) (c .loop-test .left))
 
 pub name-ended-spec : {M : Type 1} → statement M
 name-ended-spec =

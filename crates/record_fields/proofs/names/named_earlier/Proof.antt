@@ -16,6 +16,10 @@ Inv-loop t first-port r q₀ q = namedEarlier t r ≡ any (sameOwnerAndName t r)
 abbrev μ-loop : tie.MeasureT-loop
 μ-loop t first-port r q₀ q = r - q
 
+-- the points on the way: from each the one before it that an answer names
+abbrev from-at-loop : tie.At-loop Inv-loop μ-loop → tie.Start Inv-loop μ-loop
+from-at-loop c = c .before .before
+
 loop-holds : tie.Need-loop-holds Inv-loop μ-loop
 loop-holds c = rw (c .before .pre .0)
 
@@ -24,10 +28,14 @@ same-owner-and-name-requires c κs = search needs
 
 returns : tie.Need-returns Inv-loop μ-loop
 returns c =
-    let given = c .before .before .before .before .before .args in
-    let at = c .before .before .before .loop in
-    let test = sym (c .before .same-owner-and-name .ensures) ∙ c .if1 .taken in
-    sym (at .inv ∙ any-stop (sameOwnerAndName (given .t .now) (given .r)) (given .r) (at .q) (c .before .before .loop-test .taken) test)
+    let at-same-owner-and-name = c .before in
+    let at-in-loop = at-same-owner-and-name .before in
+    let at-at-loop = at-in-loop .before in
+    let s = from-at-loop at-at-loop in
+    let given = s .args in
+    let at = at-at-loop .loop in
+    let test = sym (at-same-owner-and-name .same-owner-and-name .ensures) ∙ c .if1 .taken in
+    sym (at .inv ∙ any-stop (sameOwnerAndName (given .t .now) (given .r)) (given .r) (at .q) (at-in-loop .loop-test .taken) test)
 
 add-q : tie.Need-add-q Inv-loop μ-loop
 add-q c = search needs
@@ -37,15 +45,21 @@ loop-less c = search needs
 
 loop-again : tie.Need-loop-again Inv-loop μ-loop
 loop-again c =
-    let given = c .before .before .before .before .before .args in
-    let at = c .before .before .before .loop in
-    let test = sym (c .before .same-owner-and-name .ensures) ∙ c .if1 .left in
-    at .inv ∙ any-more (sameOwnerAndName (given .t .now) (given .r)) (given .r) (at .q) (c .before .before .loop-test .taken) test
+    let at-same-owner-and-name = c .before in
+    let at-in-loop = at-same-owner-and-name .before in
+    let at-at-loop = at-in-loop .before in
+    let s = from-at-loop at-at-loop in
+    let given = s .args in
+    let at = at-at-loop .loop in
+    let test = sym (at-same-owner-and-name .same-owner-and-name .ensures) ∙ c .if1 .left in
+    at .inv ∙ any-more (sameOwnerAndName (given .t .now) (given .r)) (given .r) (at .q) (at-in-loop .loop-test .taken) test
 
 returns-2 : tie.Need-returns-2 Inv-loop μ-loop
 returns-2 c =
-    let given = c .before .before .before .args in
-    sym (c .before .loop .inv ∙ any-end (sameOwnerAndName (given .t .now) (given .r)) (given .r) (c .before .loop .q) (c .loop-test .left))
+    let at-at-loop = c .before in
+    let s = from-at-loop at-at-loop in
+    let given = s .args in
+    sym (at-at-loop .loop .inv ∙ any-end (sameOwnerAndName (given .t .now) (given .r)) (given .r) (at-at-loop .loop .q) (c .loop-test .left))
 
 pub named-earlier-spec : {M : Type 1} → statement M
 named-earlier-spec =

@@ -39,7 +39,10 @@ returns-2 c = rw (le-leb _ _ (c .before .if1 .left), lt-leb _ _ (c .if2 .taken))
 
 returns-3 : tie.Need-returns-3
 unfolding rowFits rowAt
-returns-3 c = rw (le-leb _ _ (c .before .before .if1 .left), le-leb _ _ (c .before .if2 .left), lt-leb _ _ (c .if3 .taken))
+returns-3 c =
+    let at-else2 = c .before in
+    let at-else1 = at-else2 .before in
+    rw (le-leb _ _ (at-else1 .if1 .left), le-leb _ _ (at-else2 .if2 .left), lt-leb _ _ (c .if3 .taken))
 
 add-word32 : tie.Need-add-word32
 add-word32 c = search needs
@@ -53,13 +56,15 @@ between-requires c κs = search needs
 returns-4 : tie.Need-returns-4
 unfolding rowFits rowAt
 returns-4 c =
-    let three = c .before .before .before in
+    let at-between = c .before in
+    let at-word32 = at-between .before in
+    let three = at-word32 .before in
     rw (
       le-leb _ _ (three .before .before .if1 .left),
       le-leb _ _ (three .before .if2 .left),
       le-leb _ _ (three .if3 .left),
-      ← c .before .before .word32 .ensures,
-      fails (c .before .between .ensures) (c .if4 .taken),
+      ← at-word32 .word32 .ensures,
+      fails (at-between .between .ensures) (c .if4 .taken),
     )
 
 add-word32-2 : tie.Need-add-word32-2
@@ -74,7 +79,9 @@ depth-fits-requires c κs = search needs
 returns-5 : tie.Need-returns-5
 unfolding rowFits rowAt
 returns-5 c =
-    let four = c .before .before .before in
+    let at-depth-fits = c .before in
+    let at-word322 = at-depth-fits .before in
+    let four = at-word322 .before in
     let three = four .before .before .before in
     rw (
       le-leb _ _ (three .before .before .if1 .left),
@@ -82,8 +89,8 @@ returns-5 c =
       le-leb _ _ (three .if3 .left),
       ← four .before .before .word32 .ensures,
       holds (four .before .between .ensures) (four .if4 .left),
-      ← c .before .before .word322 .ensures,
-      fails (c .before .depth-fits .ensures) (c .if5 .taken),
+      ← at-word322 .word322 .ensures,
+      fails (at-depth-fits .depth-fits .ensures) (c .if5 .taken),
     )
 
 add-word32-3 : tie.Need-add-word32-3
@@ -98,7 +105,8 @@ refresh-fits-requires c κs = search needs
 returns-6 : tie.Need-returns-6
 unfolding rowFits rowAt
 returns-6 c =
-    let five = c .before .before in
+    let at-word323 = c .before in
+    let five = at-word323 .before in
     let four = five .before .before .before in
     let three = four .before .before .before in
     rw (
@@ -109,7 +117,7 @@ returns-6 c =
       holds (four .before .between .ensures) (four .if4 .left),
       ← five .before .before .word322 .ensures,
       holds (five .before .depth-fits .ensures) (five .if5 .left),
-      ← c .before .word323 .ensures,
+      ← at-word323 .word323 .ensures,
     )
     (c .refresh-fits .ensures)
 

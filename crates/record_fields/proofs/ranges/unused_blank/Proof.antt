@@ -17,6 +17,10 @@ Inv-loop t r count j₀ j = unusedBlank t r count ≡ all (isUnused t r) (9 - j)
 abbrev μ-loop : tie.MeasureT-loop
 μ-loop t r count j₀ j = 9 - j
 
+-- the points on the way: from each the one before it that an answer names
+abbrev from-at-loop : tie.At-loop Inv-loop μ-loop → tie.Start Inv-loop μ-loop
+from-at-loop c = c .before .before
+
 add-j : tie.Need-add-j Inv-loop μ-loop
 add-j c = search needs
 
@@ -28,10 +32,14 @@ id-at-requires c κs = search needs
 
 returns : tie.Need-returns Inv-loop μ-loop
 returns c =
-    let given = c .before .before .before .before .before .args in
-    let at = c .before .before .before .loop in
-    let test = ne-eqb _ 0 (λ e. c .if1 .taken (c .before .id-at .ensures ∙ e)) in
-    sym (at .inv ∙ all-stop (isUnused (given .t .now) (given .r)) 9 (at .j) (c .before .before .loop-test .taken) test)
+    let at-id-at = c .before in
+    let at-in-loop = at-id-at .before in
+    let at-at-loop = at-in-loop .before in
+    let s = from-at-loop at-at-loop in
+    let given = s .args in
+    let at = at-at-loop .loop in
+    let test = ne-eqb _ 0 (λ e. c .if1 .taken (at-id-at .id-at .ensures ∙ e)) in
+    sym (at .inv ∙ all-stop (isUnused (given .t .now) (given .r)) 9 (at .j) (at-in-loop .loop-test .taken) test)
 
 add-j-2 : tie.Need-add-j-2 Inv-loop μ-loop
 add-j-2 c = search needs
@@ -41,15 +49,21 @@ loop-less c = search needs
 
 loop-again : tie.Need-loop-again Inv-loop μ-loop
 loop-again c =
-    let given = c .before .before .before .before .before .args in
-    let at = c .before .before .before .loop in
-    let test = eq-eqb _ 0 (sym (c .before .id-at .ensures) ∙ c .if1 .left) in
-    at .inv ∙ all-more (isUnused (given .t .now) (given .r)) 9 (at .j) (c .before .before .loop-test .taken) test
+    let at-id-at = c .before in
+    let at-in-loop = at-id-at .before in
+    let at-at-loop = at-in-loop .before in
+    let s = from-at-loop at-at-loop in
+    let given = s .args in
+    let at = at-at-loop .loop in
+    let test = eq-eqb _ 0 (sym (at-id-at .id-at .ensures) ∙ c .if1 .left) in
+    at .inv ∙ all-more (isUnused (given .t .now) (given .r)) 9 (at .j) (at-in-loop .loop-test .taken) test
 
 returns-2 : tie.Need-returns-2 Inv-loop μ-loop
 returns-2 c =
-    let given = c .before .before .before .args in
-    sym (c .before .loop .inv ∙ all-end (isUnused (given .t .now) (given .r)) 9 (c .before .loop .j) (c .loop-test .left))
+    let at-at-loop = c .before in
+    let s = from-at-loop at-at-loop in
+    let given = s .args in
+    sym (at-at-loop .loop .inv ∙ all-end (isUnused (given .t .now) (given .r)) 9 (at-at-loop .loop .j) (c .loop-test .left))
 
 pub unused-blank-spec : {M : Type 1} → statement M
 unused-blank-spec =

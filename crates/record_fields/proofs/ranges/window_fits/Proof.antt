@@ -14,7 +14,10 @@ partition-fits-requires c κs = search needs
 
 returns : tie.Need-returns
 unfolding windowFits
-returns c = rw (← c .before .before .window-partition .ensures, fails (c .before .partition-fits .ensures) (c .if1 .taken))
+returns c =
+    let at-partition-fits = c .before in
+    let at-window-partition = at-partition-fits .before in
+    rw (← at-window-partition .window-partition .ensures, fails (at-partition-fits .partition-fits .ensures) (c .if1 .taken))
 
 window-length-requires : tie.Need-window-length-requires
 window-length-requires c κs = search needs
@@ -25,12 +28,14 @@ between-requires c κs = search needs
 returns-2 : tie.Need-returns-2
 unfolding windowFits
 returns-2 c =
-    let one = c .before .before .before in
+    let at-between = c .before in
+    let at-window-length = at-between .before in
+    let one = at-window-length .before in
     rw (
       ← one .before .before .window-partition .ensures,
       holds (one .before .partition-fits .ensures) (one .if1 .left),
-      ← c .before .before .window-length .ensures,
-      fails (c .before .between .ensures) (c .if2 .taken),
+      ← at-window-length .window-length .ensures,
+      fails (at-between .between .ensures) (c .if2 .taken),
     )
 
 mul-blank : tie.Need-mul-blank

@@ -17,6 +17,13 @@ Inv-loop t n at end k₀ k = (k ≤ end) × (blank t n at ≡ blank t (end - k) 
 abbrev μ-loop : tie.MeasureT-loop
 μ-loop t n at end k₀ k = end - k
 
+-- the points on the way: from each the one before it that an answer names
+abbrev from-then1 : tie.Then1 Inv-loop μ-loop → tie.In-loop Inv-loop μ-loop
+from-then1 c = c .before .before
+
+abbrev from-else1 : tie.Else1 Inv-loop μ-loop → tie.In-loop Inv-loop μ-loop
+from-else1 c = c .before .before
+
 add-end : tie.Need-add-end Inv-loop μ-loop
 add-end c = search needs
 
@@ -28,9 +35,12 @@ shared-slice-read-if1 c = search needs
 
 returns : tie.Need-returns Inv-loop μ-loop
 returns c =
-    let t = c .before .before .before .before .args .t .now in
-    let at = c .before .before .before .loop in
-    sym (at .inv .1 ∙ all-stop (isZero t) _ (at .k) (c .before .before .loop-test .taken) (ne-eqb _ _ (c .if1 .taken)))
+    let at-in-loop = from-then1 c in
+    let at-at-loop = at-in-loop .before in
+    let s = at-at-loop .before in
+    let t = s .args .t .now in
+    let at = at-at-loop .loop in
+    sym (at .inv .1 ∙ all-stop (isZero t) _ (at .k) (at-in-loop .loop-test .taken) (ne-eqb _ _ (c .if1 .taken)))
 
 add-k : tie.Need-add-k Inv-loop μ-loop
 add-k c = search needs
@@ -40,14 +50,19 @@ loop-less c = search needs
 
 loop-again : tie.Need-loop-again Inv-loop μ-loop
 loop-again c =
-    let t = c .before .before .before .before .args .t .now in
-    let at = c .before .before .before .loop in
-    (omega arith, at .inv .1 ∙ all-more (isZero t) _ (at .k) (c .before .before .loop-test .taken) (eq-eqb _ _ (c .if1 .left)))
+    let at-in-loop = from-else1 c in
+    let at-at-loop = at-in-loop .before in
+    let s = at-at-loop .before in
+    let t = s .args .t .now in
+    let at = at-at-loop .loop in
+    (omega arith, at .inv .1 ∙ all-more (isZero t) _ (at .k) (at-in-loop .loop-test .taken) (eq-eqb _ _ (c .if1 .left)))
 
 returns-2 : tie.Need-returns-2 Inv-loop μ-loop
 returns-2 c =
-    let t = c .before .before .args .t .now in
-    let at = c .before .loop in
+    let at-at-loop = c .before in
+    let s = at-at-loop .before in
+    let t = s .args .t .now in
+    let at = at-at-loop .loop in
     sym (at .inv .1 ∙ all-end (isZero t) _ (at .k) (c .loop-test .left))
 
 pub blank-spec : {M : Type 1} → statement M

@@ -6,6 +6,10 @@ use Rattle.tables.proofs.bytes.word16.Tie as tie
 use Prim.Native.Nat.{_+_}
 use native.Mathlib.Omega.{arith}
 
+-- the points on the way: from each the one before it that an answer names
+abbrev from-shared-slice-known3 : tie.After-shared-slice-known3 → tie.Start
+from-shared-slice-known3 c = c .before .before .before .before
+
 shared-slice-read-wide : tie.Need-shared-slice-read-wide
 shared-slice-read-wide c = search needs
 
@@ -22,12 +26,17 @@ wide-requires-2 : tie.Need-wide-requires-2
 wide-requires-2 c κs = search needs
 
 mul-result : tie.Need-mul-result
-mul-result c = omega (arith, c .before .shared-slice-known3 .given (c .before .before .before .before .before .args .at + 1))
+mul-result c =
+    let at-shared-slice-known3 = c .before in
+    let s = from-shared-slice-known3 at-shared-slice-known3 in
+    omega (arith, at-shared-slice-known3 .shared-slice-known3 .given (s .args .at + 1))
 
 add-result : tie.Need-add-result
 add-result c =
-    let at = c .before .before .before .before .before .args .at in
-    omega (arith, c .before .shared-slice-known3 .given at, c .before .shared-slice-known3 .given (at + 1))
+    let at-shared-slice-known3 = c .before in
+    let s = from-shared-slice-known3 at-shared-slice-known3 in
+    let at = s .args .at in
+    omega (arith, at-shared-slice-known3 .shared-slice-known3 .given at, at-shared-slice-known3 .shared-slice-known3 .given (at + 1))
 
 returns : tie.Need-returns
 returns c = search needs

@@ -6,6 +6,10 @@ use Rattle.tables.proofs.bytes.word32.Tie as tie
 use Prim.Native.Nat.{_+_}
 use native.Mathlib.Omega.{arith}
 
+-- the points on the way: from each the one before it that an answer names
+abbrev from-word162 : tie.After-word162 → tie.After-shared-slice-known
+from-word162 c = c .before .before
+
 word16-requires : tie.Need-word16-requires
 word16-requires c κs = search needs
 
@@ -17,14 +21,18 @@ word16-requires-2 c κs = search needs
 
 mul-result : tie.Need-mul-result
 mul-result c =
-    let at = c .before .before .before .args .at in
-    let bytes = c .before .before .shared-slice-known .given in
+    let at-shared-slice-known = from-word162 c in
+    let s = at-shared-slice-known .before in
+    let at = s .args .at in
+    let bytes = at-shared-slice-known .shared-slice-known .given in
     omega (arith, bytes (at + 2), bytes (at + 2 + 1))
 
 add-result : tie.Need-add-result
 add-result c =
-    let at = c .before .before .before .args .at in
-    let bytes = c .before .before .shared-slice-known .given in
+    let at-shared-slice-known = from-word162 c in
+    let s = at-shared-slice-known .before in
+    let at = s .args .at in
+    let bytes = at-shared-slice-known .shared-slice-known .given in
     omega (arith, bytes at, bytes (at + 1), bytes (at + 2), bytes (at + 2 + 1))
 
 returns : tie.Need-returns

@@ -6,6 +6,10 @@ use Rattle.tables.proofs.channels.destination_port.Tie as tie
 use native.Mathlib.Numerals.{add-one}
 use Rattle.model.specs.Tables.{destinationPort}
 
+-- the points on the way: from each the one before it that an answer names
+abbrev from-id-at : tie.After-id-at → tie.Start
+from-id-at c = c .before .before
+
 add-id-at : tie.Need-add-id-at
 add-id-at c = search needs
 
@@ -20,7 +24,10 @@ port-of-requires c κs = search needs
 
 returns : tie.Need-returns
 unfolding destinationPort
-returns c = rw (← c .before .before .before .pre .0, ← add-one (c .before .before .before .args .j), ← c .before .id-at .ensures) (c .port-of .ensures)
+returns c =
+    let at-id-at = c .before in
+    let s = from-id-at at-id-at in
+    rw (← s .pre .0, ← add-one (s .args .j), ← at-id-at .id-at .ensures) (c .port-of .ensures)
 
 pub destination-port-spec : {M : Type 1} → statement M
 destination-port-spec =

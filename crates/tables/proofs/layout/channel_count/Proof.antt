@@ -7,6 +7,10 @@ use native.Mathlib.Omega.{arith}
 use Rattle.model.specs.Tables.{channels}
 use Rattle.tables.proofs.Places.{ports-within}
 
+-- the points on the way: from each the one before it that an answer names
+abbrev from-ports-end : tie.After-ports-end → tie.Start
+from-ports-end c = c .before .before .before
+
 records-requires : tie.Need-records-requires
 records-requires c κs = search needs
 
@@ -14,7 +18,9 @@ ports-end-requires : tie.Need-ports-end-requires
 ports-end-requires c κs = search needs
 
 sub-result : tie.Need-sub-result
-sub-result c = omega (arith, ports-within (c .before .before .before .args .t .now))
+sub-result c =
+    let s = from-ports-end c in
+    omega (arith, ports-within (s .args .t .now))
 
 returns : tie.Need-returns
 unfolding channels

@@ -7,6 +7,10 @@ use native.Mathlib.Omega.{arith}
 use Rattle.model.specs.Tables.{ports}
 use Rattle.tables.proofs.Places.{ports-after}
 
+-- the points on the way: from each the one before it that an answer names
+abbrev from-ports-end-from : tie.After-ports-end-from → tie.Start
+from-ports-end-from c = c .before .before .before
+
 windows-requires : tie.Need-windows-requires
 windows-requires c κs = search needs
 
@@ -14,7 +18,9 @@ ports-end-from-requires : tie.Need-ports-end-from-requires
 ports-end-from-requires c κs = search needs
 
 sub-result : tie.Need-sub-result
-sub-result c = omega (arith, ports-after (c .before .before .before .args .t .now))
+sub-result c =
+    let s = from-ports-end-from c in
+    omega (arith, ports-after (s .args .t .now))
 
 returns : tie.Need-returns
 unfolding ports

@@ -17,6 +17,10 @@ Inv-loop t wanted start end r₀ r = (end ≡ records t) × (runEnd wanted t sta
 abbrev μ-loop : tie.MeasureT-loop
 μ-loop t wanted start end r₀ r = end - r
 
+-- the points on the way: from each the one before it that an answer names
+abbrev from-at-loop : tie.At-loop Inv-loop μ-loop → tie.Start Inv-loop μ-loop
+from-at-loop c = c .before .before .before
+
 records-requires : tie.Need-records-requires Inv-loop μ-loop
 records-requires c κs = search needs
 
@@ -28,10 +32,14 @@ kind-requires c κs = search needs
 
 returns : tie.Need-returns Inv-loop μ-loop
 returns c =
-    let given = c .before .before .before .before .before .before .args in
-    let at = c .before .before .before .loop in
-    let test = is-other (given .t .now) (given .wanted) (at .r) _ (c .before .kind .ensures) (c .if1 .taken) in
-    sym (at .inv .1 ∙ first-stop (otherKind (given .wanted) (given .t .now)) _ (at .r) (c .before .before .loop-test .taken) test)
+    let at-kind = c .before in
+    let at-in-loop = at-kind .before in
+    let at-at-loop = at-in-loop .before in
+    let s = from-at-loop at-at-loop in
+    let given = s .args in
+    let at = at-at-loop .loop in
+    let test = is-other (given .t .now) (given .wanted) (at .r) _ (at-kind .kind .ensures) (c .if1 .taken) in
+    sym (at .inv .1 ∙ first-stop (otherKind (given .wanted) (given .t .now)) _ (at .r) (at-in-loop .loop-test .taken) test)
 
 add-r : tie.Need-add-r Inv-loop μ-loop
 add-r c = search needs
@@ -41,15 +49,21 @@ loop-less c = search needs
 
 loop-again : tie.Need-loop-again Inv-loop μ-loop
 loop-again c =
-    let given = c .before .before .before .before .before .before .args in
-    let at = c .before .before .before .loop in
-    let test = is-kind (given .t .now) (given .wanted) (at .r) _ (c .before .kind .ensures) (c .if1 .left) in
-    (at .inv .0, at .inv .1 ∙ first-more (otherKind (given .wanted) (given .t .now)) _ (at .r) (c .before .before .loop-test .taken) test)
+    let at-kind = c .before in
+    let at-in-loop = at-kind .before in
+    let at-at-loop = at-in-loop .before in
+    let s = from-at-loop at-at-loop in
+    let given = s .args in
+    let at = at-at-loop .loop in
+    let test = is-kind (given .t .now) (given .wanted) (at .r) _ (at-kind .kind .ensures) (c .if1 .left) in
+    (at .inv .0, at .inv .1 ∙ first-more (otherKind (given .wanted) (given .t .now)) _ (at .r) (at-in-loop .loop-test .taken) test)
 
 returns-2 : tie.Need-returns-2 Inv-loop μ-loop
 returns-2 c =
-    let given = c .before .before .before .before .args in
-    let at = c .before .loop in
+    let at-at-loop = c .before in
+    let s = from-at-loop at-at-loop in
+    let given = s .args in
+    let at = at-at-loop .loop in
     sym (at .inv .1 ∙ first-end (otherKind (given .wanted) (given .t .now)) _ (at .r) (c .loop-test .left))
 
 pub run-end-spec : {M : Type 1} → statement M

@@ -17,6 +17,13 @@ Inv-loop a at b bt k₀ k = sameName a at b bt ≡ all (sameAt a at b bt) (30 - 
 abbrev μ-loop : tie.MeasureT-loop
 μ-loop a at b bt k₀ k = 30 - k
 
+-- the points on the way: from each the one before it that an answer names
+abbrev from-then1 : tie.Then1 Inv-loop μ-loop → tie.In-loop Inv-loop μ-loop
+from-then1 c = c .before .before .before
+
+abbrev from-else1 : tie.Else1 Inv-loop μ-loop → tie.In-loop Inv-loop μ-loop
+from-else1 c = c .before .before .before
+
 loop-holds : tie.Need-loop-holds Inv-loop μ-loop
 loop-holds c = name-whole _ _ _ _
 
@@ -34,9 +41,12 @@ shared-slice-read-if1-2 c = search needs
 
 returns : tie.Need-returns Inv-loop μ-loop
 returns c =
-    let x = c .before .before .before .before .before .args in
-    let at = c .before .before .before .before .loop in
-    sym (at .inv ∙ all-stop (sameAt (x .a .now) (x .at) (x .b .now) (x .bt)) 30 (at .k) (c .before .before .before .loop-test .taken) (ne-eqb _ _ (c .if1 .taken)))
+    let at-in-loop = from-then1 c in
+    let at-at-loop = at-in-loop .before in
+    let s = at-at-loop .before in
+    let x = s .args in
+    let at = at-at-loop .loop in
+    sym (at .inv ∙ all-stop (sameAt (x .a .now) (x .at) (x .b .now) (x .bt)) 30 (at .k) (at-in-loop .loop-test .taken) (ne-eqb _ _ (c .if1 .taken)))
 
 add-k : tie.Need-add-k Inv-loop μ-loop
 add-k c = search needs
@@ -46,14 +56,19 @@ loop-less c = search needs
 
 loop-again : tie.Need-loop-again Inv-loop μ-loop
 loop-again c =
-    let x = c .before .before .before .before .before .args in
-    let at = c .before .before .before .before .loop in
-    at .inv ∙ all-more (sameAt (x .a .now) (x .at) (x .b .now) (x .bt)) 30 (at .k) (c .before .before .before .loop-test .taken) (eq-eqb _ _ (c .if1 .left))
+    let at-in-loop = from-else1 c in
+    let at-at-loop = at-in-loop .before in
+    let s = at-at-loop .before in
+    let x = s .args in
+    let at = at-at-loop .loop in
+    at .inv ∙ all-more (sameAt (x .a .now) (x .at) (x .b .now) (x .bt)) 30 (at .k) (at-in-loop .loop-test .taken) (eq-eqb _ _ (c .if1 .left))
 
 returns-2 : tie.Need-returns-2 Inv-loop μ-loop
 returns-2 c =
-    let x = c .before .before .args in
-    sym (c .before .loop .inv ∙ all-end (sameAt (x .a .now) (x .at) (x .b .now) (x .bt)) 30 (c .before .loop .k) (c .loop-test .left))
+    let at-at-loop = c .before in
+    let s = at-at-loop .before in
+    let x = s .args in
+    sym (at-at-loop .loop .inv ∙ all-end (sameAt (x .a .now) (x .at) (x .b .now) (x .bt)) 30 (at-at-loop .loop .k) (c .loop-test .left))
 
 pub same-name-spec : {M : Type 1} → statement M
 same-name-spec =
