@@ -7,26 +7,46 @@ use borrow.Author.Needs.{needs}
 use Rattle.create_and_find.proofs.like_row.Statement.{statement}
 use Rattle.create_and_find.proofs.like_row.Tie as tie
 
+-- the points on the way: from each the one before it that an answer names
+abbrev from-then1 : tie.Then1 → tie.Start
+from-then1 c = c .before .before .before
+
+abbrev from-else1 : tie.Else1 → tie.Start
+from-else1 c = c .before .before .before
+
+abbrev from-then2 : tie.Then2 → tie.Else1
+from-then2 c = c .before .before .before
+
+abbrev from-else2 : tie.Else2 → tie.Else1
+from-else2 c = c .before .before .before
+
 returns : tie.Need-returns
 returns c =
-    let r = Shown.rowOf (c .before .before .before .args .row) in
-    let f = callOf (c .before .before .before .args .f) in
+    let s = from-then1 c in
+    let r = Shown.rowOf (s .args .row) in
+    let f = callOf (s .args .f) in
     sym (LikeRow.unlike-size r f (c .if1 .taken))
 
 returns-2 : tie.Need-returns-2
 returns-2 c =
-    let r = Shown.rowOf (c .before .before .before .before .before .before .args .row) in
-    let f = callOf (c .before .before .before .before .before .before .args .f) in
-    sym (LikeRow.unlike-direction r f (c .before .before .before .if1 .left) (c .if2 .taken))
+    let at-else1 = from-then2 c in
+    let s = from-else1 at-else1 in
+    let r = Shown.rowOf (s .args .row) in
+    let f = callOf (s .args .f) in
+    sym (LikeRow.unlike-direction r f (at-else1 .if1 .left) (c .if2 .taken))
 
 period-requires : tie.Need-period-requires
 period-requires c κs = search needs
 
 returns-3 : tie.Need-returns-3
 returns-3 c =
-    let r = Shown.rowOf (c .before .before .before .before .before .before .before .before .args .row) in
-    let f = callOf (c .before .before .before .before .before .before .before .before .args .f) in
-    rw (c .before .period .ensures) (sym (LikeRow.like-number r f (c .before .before .before .before .before .if1 .left) (c .before .before .if2 .left)))
+    let at-period = c .before in
+    let at-else2 = at-period .before in
+    let at-else1 = from-else2 at-else2 in
+    let s = from-else1 at-else1 in
+    let r = Shown.rowOf (s .args .row) in
+    let f = callOf (s .args .f) in
+    rw (at-period .period .ensures) (sym (LikeRow.like-number r f (at-else1 .if1 .left) (at-else2 .if2 .left)))
 
 pub like-row-spec : {M : Type 1} → statement M
 like-row-spec = tie.close (tie.spec returns returns-2 period-requires returns-3)

@@ -8,6 +8,16 @@ use borrow.Author.Needs.{needs}
 use Rattle.create_and_find.proofs.make.Statement.{statement}
 use Rattle.create_and_find.proofs.make.Tie as tie
 
+-- the points on the way: from each the one before it that an answer names
+abbrev from-number : tie.After-number → tie.Start
+from-number c = c .before .before .before .before
+
+abbrev from-set-number : tie.After-set-number → tie.Else3
+from-set-number c = c .before .before
+
+abbrev from-told-id : tie.After-told-id → tie.After-set-number
+from-told-id c = c .before .before .before
+
 number-requires : tie.Need-number-requires
 number-requires c κs = search needs
 
@@ -19,8 +29,11 @@ same-length c = search needs
 
 returns : tie.Need-returns
 returns c =
-    let a = c .before .before .before .before .before .before .args in
-    rw (made-again (a .numbers .now) (a .bytes .now) (a .k) (a .mode) (Shown.rowOf (a .row)) (callOf (a .f)) (c .before .before .number .ensures) (c .before .if1 .taken)) (kept (c .refusal .ensures))
+    let at-then1 = c .before in
+    let at-number = at-then1 .before in
+    let s = from-number at-number in
+    let a = s .args in
+    rw (made-again (a .numbers .now) (a .bytes .now) (a .k) (a .mode) (Shown.rowOf (a .row)) (callOf (a .f)) (at-number .number .ensures) (at-then1 .if1 .taken)) (kept (c .refusal .ensures))
 
 like-row-requires : tie.Need-like-row-requires
 like-row-requires c κs = search needs
@@ -33,8 +46,13 @@ same-length-2 c = search needs
 
 returns-2 : tie.Need-returns-2
 returns-2 c =
-    let a = c .before .before .before .before .before .before .before .before .args in
-    rw (made-unlike (a .numbers .now) (a .bytes .now) (a .k) (a .mode) (Shown.rowOf (a .row)) (callOf (a .f)) (c .before .before .before .before .number .ensures) (c .before .before .before .if1 .left) (c .before .before .like-row .ensures) (c .before .if2 .taken)) (kept (c .refusal2 .ensures))
+    let at-then2 = c .before in
+    let at-like-row = at-then2 .before in
+    let at-else1 = at-like-row .before in
+    let at-number = at-else1 .before in
+    let s = from-number at-number in
+    let a = s .args in
+    rw (made-unlike (a .numbers .now) (a .bytes .now) (a .k) (a .mode) (Shown.rowOf (a .row)) (callOf (a .f)) (at-number .number .ensures) (at-else1 .if1 .left) (at-like-row .like-row .ensures) (at-then2 .if2 .taken)) (kept (c .refusal2 .ensures))
 
 refusal-requires-3 : tie.Need-refusal-requires-3
 refusal-requires-3 c κs = search needs
@@ -44,8 +62,14 @@ same-length-3 c = search needs
 
 returns-3 : tie.Need-returns-3
 returns-3 c =
-    let a = c .before .before .before .before .before .before .before .before .before .args in
-    rw (made-normal (a .numbers .now) (a .bytes .now) (a .k) (a .mode) (Shown.rowOf (a .row)) (callOf (a .f)) (c .before .before .before .before .before .number .ensures) (c .before .before .before .before .if1 .left) (c .before .before .before .like-row .ensures) (c .before .before .if2 .left) (c .before .if3 .taken)) (kept (c .refusal3 .ensures))
+    let at-then3 = c .before in
+    let at-else2 = at-then3 .before in
+    let at-like-row = at-else2 .before in
+    let at-else1 = at-like-row .before in
+    let at-number = at-else1 .before in
+    let s = from-number at-number in
+    let a = s .args in
+    rw (made-normal (a .numbers .now) (a .bytes .now) (a .k) (a .mode) (Shown.rowOf (a .row)) (callOf (a .f)) (at-number .number .ensures) (at-else1 .if1 .left) (at-like-row .like-row .ensures) (at-else2 .if2 .left) (at-then3 .if3 .taken)) (kept (c .refusal3 .ensures))
 
 set-number-requires : tie.Need-set-number-requires
 set-number-requires c κs = search needs
@@ -64,8 +88,15 @@ same-length-4 c = search needs
 
 returns-4 : tie.Need-returns-4
 returns-4 c =
-    let a = c .before .before .before .before .before .before .before .before .before .before .before .before .before .args in
-    rw (made-done (a .numbers .now) (a .bytes .now) (a .k) (a .mode) (Shown.rowOf (a .row)) (callOf (a .f)) (c .before .before .before .before .before .before .before .before .before .number .ensures) (c .before .before .before .before .before .before .before .before .if1 .left) (c .before .before .before .before .before .before .before .like-row .ensures) (c .before .before .before .before .before .before .if2 .left) (c .before .before .before .before .before .if3 .left)) (c .told-id .ensures, put-created (a .numbers .now) (a .bytes .now) (a .k) 1 (c .before .before .before .set-number .ensures))
+    let at-set-number = from-told-id c in
+    let at-else3 = from-set-number at-set-number in
+    let at-else2 = at-else3 .before in
+    let at-like-row = at-else2 .before in
+    let at-else1 = at-like-row .before in
+    let at-number = at-else1 .before in
+    let s = from-number at-number in
+    let a = s .args in
+    rw (made-done (a .numbers .now) (a .bytes .now) (a .k) (a .mode) (Shown.rowOf (a .row)) (callOf (a .f)) (at-number .number .ensures) (at-else1 .if1 .left) (at-like-row .like-row .ensures) (at-else2 .if2 .left) (at-else3 .if3 .left)) (c .told-id .ensures, put-created (a .numbers .now) (a .bytes .now) (a .k) 1 (at-set-number .set-number .ensures))
 
 pub make-spec : {M : Type 1} → statement M
 make-spec =

@@ -4,6 +4,19 @@ use borrow.Author.Needs.{needs}
 use Rattle.modes.proofs.unmake.Statement.{statement}
 use Rattle.modes.proofs.unmake.Tie as tie
 
+-- the points on the way: from each the one before it that an answer names
+abbrev from-set-number2 : tie.After-set-number2 → tie.After-set-number
+from-set-number2 c = c .before .before .before .before
+
+abbrev from-set-number3 : tie.After-set-number3 → tie.After-set-number2
+from-set-number3 c = c .before .before .before .before
+
+abbrev from-set-number4 : tie.After-set-number4 → tie.After-set-number3
+from-set-number4 c = c .before .before .before .before
+
+abbrev from-slice-known5 : tie.After-slice-known5 → tie.After-set-number4
+from-slice-known5 c = c .before .before
+
 set-number-requires : tie.Need-set-number-requires
 set-number-requires c κs = search needs
 
@@ -20,7 +33,12 @@ same-length : tie.Need-same-length
 same-length c = search needs
 
 returns : tie.Need-returns
-returns c = λ bytes. Unmade.unmade-row (c .before .before .before .before .before .before .before .before .before .before .before .before .before .before .set-number .ensures) (c .before .before .before .before .before .before .before .before .before .before .set-number2 .ensures) (c .before .before .before .before .before .before .set-number3 .ensures) (c .before .before .set-number4 .ensures) bytes
+returns c =
+    let at-set-number4 = from-slice-known5 c in
+    let at-set-number3 = from-set-number4 at-set-number4 in
+    let at-set-number2 = from-set-number3 at-set-number3 in
+    let at-set-number = from-set-number2 at-set-number2 in
+    λ bytes. Unmade.unmade-row (at-set-number .set-number .ensures) (at-set-number2 .set-number2 .ensures) (at-set-number3 .set-number3 .ensures) (at-set-number4 .set-number4 .ensures) bytes
 
 pub unmake-spec : {M : Type 1} → statement M
 unmake-spec =

@@ -16,6 +16,22 @@ Inv-loop t lay numbers₀ p k₀ numbers k = (k ≤ ports t) × (length numbers 
 abbrev μ-loop : tie.MeasureT-loop
 μ-loop t lay numbers₀ p k₀ numbers k = lay .ports - k
 
+-- the points on the way: from each the one before it that an answer names
+abbrev from-at-loop : tie.At-loop Inv-loop μ-loop → tie.Start Inv-loop μ-loop
+from-at-loop c = c .before .before .before
+
+abbrev from-then1 : tie.Then1 Inv-loop μ-loop → tie.At-loop Inv-loop μ-loop
+from-then1 c = c .before .before
+
+abbrev from-else1 : tie.Else1 Inv-loop μ-loop → tie.At-loop Inv-loop μ-loop
+from-else1 c = c .before .before
+
+abbrev from-unmake-arg : tie.After-unmake-arg Inv-loop μ-loop → tie.Then1 Inv-loop μ-loop
+from-unmake-arg c = c .before .before .before .before
+
+abbrev from-joined2 : tie.Joined2 Inv-loop μ-loop → tie.Then1 Inv-loop μ-loop
+from-joined2 c = c .before .before .before
+
 loop-holds : tie.Need-loop-holds Inv-loop μ-loop
 loop-holds c = (omega arith, refl, swept-none _ _ _)
 
@@ -33,10 +49,12 @@ shared-slice-read-if2 c = search needs
 
 unmake-requires : tie.Need-unmake-requires Inv-loop μ-loop
 unmake-requires c κs =
-    let s = c .before .before .before .before .before .before .before .before .before in
+    let at-then1 = from-unmake-arg c in
+    let at-at-loop = from-then1 at-then1 in
+    let s = from-at-loop at-at-loop in
     let t = s .args .t .now in
-    let l = c .before .before .before .before .before .before .loop in
-    let inside : l .k < ports t = omega (arith, s .pre .0 .laid .ported, c .before .before .before .before .if1 .taken) in
+    let l = at-at-loop .loop in
+    let inside : l .k < ports t = omega (arith, s .pre .0 .laid .ported, at-then1 .if1 .taken) in
     (l .inv .1 ∙ s .pre .1, omega (arith, inside, s .pre .0 .few))
 
 add-k : tie.Need-add-k Inv-loop μ-loop
@@ -48,12 +66,14 @@ loop-less c = search needs
 loop-again : tie.Need-loop-again Inv-loop μ-loop
 unfolding rowAt
 loop-again c =
-    let s = c .before .before .before .before .before .before .before .before in
+    let at-then1 = from-joined2 c in
+    let at-at-loop = from-then1 at-then1 in
+    let s = from-at-loop at-at-loop in
     let t = s .args .t .now in
     let p = s .args .p in
     let n = s .args .numbers .now in
-    let l = c .before .before .before .before .before .loop in
-    let inside : l .k < ports t = omega (arith, s .pre .0 .laid .ported, c .before .before .before .if1 .taken) in
+    let l = at-at-loop .loop in
+    let inside : l .k < ports t = omega (arith, s .pre .0 .laid .ported, at-then1 .if1 .taken) in
     let more : l .k + 1 ≤ ports t = omega arith in
     let v = s .pre .0 .laid .windowed in
     ⊎-elim
@@ -70,8 +90,9 @@ same-length c = search needs
 
 returns : tie.Need-returns Inv-loop μ-loop
 returns c =
-    let s = c .before .before .before .before .before in
-    let l = c .before .before .loop in
+    let at-at-loop = from-else1 c in
+    let s = from-at-loop at-at-loop in
+    let l = at-at-loop .loop in
     let all : l .k ≡ ports (s .args .t .now) = omega (arith, s .pre .0 .laid .ported, c .if1 .left, l .inv .0) in
     λ bytes. swept-all (s .args .t .now) (s .args .p) (s .args .numbers .now) (ports (s .args .t .now)) (l .numbers) (subst (λ k. Swept (s .args .t .now) (s .args .p) k (s .args .numbers .now) (l .numbers)) all (l .inv .2)) bytes
 

@@ -9,6 +9,10 @@ use borrow.Author.Needs.{needs}
 use Rattle.port_services.proofs.status.Statement.{statement}
 use Rattle.port_services.proofs.status.Tie as tie
 
+-- the points on the way: from each the one before it that an answer names
+abbrev from-number : tie.After-number → tie.Start
+from-number c = c .before .before .before .before .before .before .before
+
 done-requires : tie.Need-done-requires
 done-requires c κs = search needs
 
@@ -20,10 +24,11 @@ number-requires c κs = search needs
 
 cast-a : tie.Need-cast-a
 cast-a c =
-    let a = c .before .before .before .before .before .before .before .args in
+    let s = from-number c in
+    let a = s .args in
     let n = a .numbers .now in
     let b = a .bytes .now in
-    record { fits = omega (arith, c .number .ensures, validity-is n b (a .k), c .before .before .before .before .before .before .before .pre .port .judged) }
+    record { fits = omega (arith, c .number .ensures, validity-is n b (a .k), s .pre .port .judged) }
 
 enum-known-transfer-2 : tie.Need-enum-known-transfer-2
 enum-known-transfer-2 c = search needs

@@ -15,6 +15,10 @@ Inv-loop to₀ at part i₀ to i = (i ≤ length part) × (length to ≡ length 
 abbrev μ-loop : tie.MeasureT-loop
 μ-loop to₀ at part i₀ to i = length part - i
 
+-- the points on the way: from each the one before it that an answer names
+abbrev from-shared-slice-known : tie.After-shared-slice-known Inv-loop μ-loop → tie.At-loop Inv-loop μ-loop
+from-shared-slice-known c = c .before .before
+
 loop-holds : tie.Need-loop-holds Inv-loop μ-loop
 loop-holds c = (omega arith, refl, paste-zero (c .args .to .now) (c .args .at) (c .args .part .now))
 
@@ -35,8 +39,10 @@ loop-less c = search needs
 
 loop-again : tie.Need-loop-again Inv-loop μ-loop
 loop-again c =
-    let a = c .before .before .before .args in
-    let l = c .before .before .loop in (
+    let at-at-loop = from-shared-slice-known c in
+    let s = at-at-loop .before in
+    let a = s .args in
+    let l = at-at-loop .loop in (
       omega arith,
       simp length-set (l .inv .1),
       paste-turn (a .to .now) (a .at) (a .part .now) (l .i) (l .inv .2) refl refl (omega arith) (omega arith),
@@ -47,8 +53,10 @@ same-length c = search needs
 
 returns : tie.Need-returns Inv-loop μ-loop
 returns c =
-    let a = c .before .before .args in
-    let l = c .before .loop in
+    let at-at-loop = c .before in
+    let s = at-at-loop .before in
+    let a = s .args in
+    let l = at-at-loop .loop in
     let all : l .i ≡ length (a .part .now) = omega arith in
     l .inv .2 ∙ rw all (paste-pasted (a .to .now) (a .at) (a .part .now))
 

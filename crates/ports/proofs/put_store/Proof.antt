@@ -14,6 +14,22 @@ eight c = search needs
 whole : (c : tie.Start) → length (c .args .t4 .bytes) ≡ 512
 whole c = search needs
 
+-- the points on the way: from each the one before it that an answer names
+abbrev from-set-number : tie.After-set-number → tie.Start
+from-set-number c = c .before .before .before .before
+
+abbrev from-set-number2 : tie.After-set-number2 → tie.After-set-number
+from-set-number2 c = c .before .before .before .before
+
+abbrev from-lay-numbers : tie.After-lay-numbers → tie.After-set-number2
+from-lay-numbers c = c .before .before .before .before .before .before .before
+
+abbrev from-lay-bytes : tie.After-lay-bytes → tie.After-lay-numbers
+from-lay-bytes c = c .before .before .before .before .before .before .before
+
+abbrev from-slice-known6 : tie.After-slice-known6 → tie.After-lay-bytes
+from-slice-known6 c = c .before .before
+
 set-number-requires : tie.Need-set-number-requires
 set-number-requires c κs = search needs
 
@@ -43,12 +59,16 @@ same-length-2 c = search needs
 
 returns : tie.Need-returns
 returns c =
-    let s = c .before .before .before .before .before .before .before .before .before .before .before .before .before .before .before .before .before .before .before .before .before .before .before .before in
+    let at-lay-bytes = from-slice-known6 c in
+    let at-lay-numbers = from-lay-bytes at-lay-bytes in
+    let at-set-number2 = from-lay-numbers at-lay-numbers in
+    let at-set-number = from-set-number2 at-set-number2 in
+    let s = from-set-number at-set-number in
     let a = s .args in
-    let oldest = c .before .before .before .before .before .before .before .before .before .before .before .before .before .before .before .before .before .before .before .before .set-number in
-    let count = c .before .before .before .before .before .before .before .before .before .before .before .before .before .before .before .before .set-number2 in
-    let lengths = lengths-put (a .t4 .lengths) (count .kept .0 ∙ oldest .kept .0 ∙ s .pre .0) (s .pre .2) (eight s) (c .before .before .before .before .before .before .before .before .before .lay-numbers .ensures) in
-    let block = block-put (s .pre .1) (s .pre .2) (whole s) (c .before .before .lay-bytes .ensures) in
+    let oldest = at-set-number .set-number in
+    let count = at-set-number2 .set-number2 in
+    let lengths = lengths-put (a .t4 .lengths) (count .kept .0 ∙ oldest .kept .0 ∙ s .pre .0) (s .pre .2) (eight s) (at-lay-numbers .lay-numbers .ensures) in
+    let block = block-put (s .pre .1) (s .pre .2) (whole s) (at-lay-bytes .lay-bytes .ensures) in
     let turned = row-again (oldest .ensures) (row-is (count .ensures) (ap (λ r. set r 4 (a .t4 .count)) (oldest .ensures .here))) in
     let row = row-again turned (row-is lengths (ap (λ r. paste r 5 (a .t4 .lengths) 8) (turned .here))) in
     put-is (port-put row block) (store-row (a .numbers .now) (a .bytes .now) (a .k) (a .t4) (eight s))

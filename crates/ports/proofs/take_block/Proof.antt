@@ -16,6 +16,10 @@ Inv-loop bytes k at block₀ i₀ block i = (i ≤ 512) × (length block ≡ 512
 abbrev μ-loop : tie.MeasureT-loop
 μ-loop bytes k at block₀ i₀ block i = 512 - i
 
+-- the points on the way: from each the one before it that an answer names
+abbrev from-shared-slice-known : tie.After-shared-slice-known Inv-loop μ-loop → tie.At-loop Inv-loop μ-loop
+from-shared-slice-known c = c .before .before
+
 mul-at : tie.Need-mul-at Inv-loop μ-loop
 mul-at c = search needs
 
@@ -39,10 +43,12 @@ loop-less c = search needs
 
 loop-again : tie.Need-loop-again Inv-loop μ-loop
 loop-again c =
-    let l = c .before .before .loop in
-    let b = c .before .before .before .args .bytes .now in
-    let k = c .before .before .before .args .k in
-    let whole : length b ≡ 32768 = c .before .before .before .pre .0 in
+    let at-at-loop = from-shared-slice-known c in
+    let s = at-at-loop .before in
+    let l = at-at-loop .loop in
+    let b = s .args .bytes .now in
+    let k = s .args .k in
+    let whole : length b ≡ 32768 = s .pre .0 in
     let long : l .i < length (drop (512 * k) b) = simp length-drop (omega arith) in
     (omega arith, simp length-set (l .inv .1), rw (getD-drop (512 * k) b (l .i) 0) at (fill-next (l .block) (drop (512 * k) b) (l .i) (omega (arith, l .inv .1)) long (l .inv .2)))
 

@@ -16,6 +16,13 @@ Inv-loop numbers k lengths₀ i₀ lengths i = (i ≤ 8) × (length lengths ≡ 
 abbrev μ-loop : tie.MeasureT-loop
 μ-loop numbers k lengths₀ i₀ lengths i = 8 - i
 
+-- the points on the way: from each the one before it that an answer names
+abbrev from-at-loop : tie.At-loop Inv-loop μ-loop → tie.Start Inv-loop μ-loop
+from-at-loop c = c .before .before
+
+abbrev from-number : tie.After-number Inv-loop μ-loop → tie.At-loop Inv-loop μ-loop
+from-number c = c .before .before
+
 loop-holds : tie.Need-loop-holds Inv-loop μ-loop
 loop-holds c = (omega arith, refl, refl)
 
@@ -40,9 +47,11 @@ loop-less c = search needs
 loop-again : tie.Need-loop-again Inv-loop μ-loop
 unfolding rowOf
 loop-again c =
-    let l = c .before .before .loop in
-    let n = c .before .before .before .before .args .numbers .now in
-    let k = c .before .before .before .before .args .k in
+    let at-at-loop = from-number c in
+    let s = from-at-loop at-at-loop in
+    let l = at-at-loop .loop in
+    let n = s .args .numbers .now in
+    let k = s .args .k in
     let long : l .i < length (drop 5 (rowOf n k)) = simp length-drop (omega arith) in
     (omega arith, simp length-set (l .inv .1), rw (c .number .ensures, ← (getD-drop 5 (rowOf n k) (l .i) 0)) (fill-next (l .lengths) (drop 5 (rowOf n k)) (l .i) (omega (arith, l .inv .1)) long (l .inv .2)))
 

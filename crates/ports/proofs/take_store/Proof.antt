@@ -19,7 +19,10 @@ number-requires-2 c κs = search needs
 returns : tie.Need-returns
 unfolding storeAt
 returns c =
-    rw (c .before .before .before .take-block .ensures, c .before .before .take-lengths .ensures, c .before .number .ensures, c .number2 .ensures)
+    let at-number = c .before in
+    let at-take-lengths = at-number .before in
+    let at-take-block = at-take-lengths .before in
+    rw (at-take-block .take-block .ensures, at-take-lengths .take-lengths .ensures, at-number .number .ensures, c .number2 .ensures)
 
 pub take-store-spec : {M : Type 1} → statement M
 take-store-spec =

@@ -13,12 +13,34 @@ use borrow.Author.Needs.{needs}
 use Rattle.settled_form.proofs.put_port.Statement.{statement}
 use Rattle.settled_form.proofs.put_port.Tie as tie
 
+-- the points on the way: from each the one before it that an answer names
+abbrev from-take-store : tie.After-take-store → tie.Start
+from-take-store c = c .before .before .before .before .before
+
+abbrev from-lay-numbers : tie.After-lay-numbers → tie.After-number3
+from-lay-numbers c = c .before .before .before
+
+abbrev from-lay-numbers2 : tie.After-lay-numbers2 → tie.After-lay-numbers
+from-lay-numbers2 c = c .before .before .before .before .before .before .before
+
+abbrev from-lay-bytes-arg : tie.After-lay-bytes-arg → tie.After-lay-numbers2
+from-lay-bytes-arg c = c .before .before .before
+
+abbrev from-lay-bytes-arg3 : tie.After-lay-bytes-arg3 → tie.After-lay-numbers2
+from-lay-bytes-arg3 c = c .before .before .before .before .before .before
+
+abbrev from-lay-bytes : tie.After-lay-bytes → tie.After-lay-numbers2
+from-lay-bytes c = c .before .before .before .before .before .before .before
+
+abbrev from-slice-known5 : tie.After-slice-known5 → tie.After-lay-bytes
+from-slice-known5 c = c .before .before
+
 take-store-requires : tie.Need-take-store-requires
 take-store-requires c κs = search needs
 
 settled-requires : tie.Need-settled-requires
 settled-requires c κs =
-    let s = c .before .before .before .before .before in
+    let s = from-take-store c in
     subst Sized (sym (c .take-store .ensures)) (s .pre .1 .each (s .args .k) (omega arith))
 
 number-requires : tie.Need-number-requires
@@ -49,12 +71,16 @@ lay-numbers-requires-2 : tie.Need-lay-numbers-requires-2
 lay-numbers-requires-2 c κs = search needs
 
 mul-lay-bytes : tie.Need-mul-lay-bytes
-mul-lay-bytes c = omega (arith, c .before .before .before .before .before .before .before .before .before .before .before .before .before .before .before .before .before .before .before .before .before .before .pre .1 .few)
+mul-lay-bytes c =
+    let s = from-take-store ((from-lay-numbers (from-lay-numbers2 (from-lay-bytes-arg c))) .before .before .before .before) in
+    omega (arith, s .pre .1 .few)
 
 lay-bytes-requires : tie.Need-lay-bytes-requires
 lay-bytes-requires c κs =
-    let s = c .before .before .before .before .before .before .before .before .before .before .before .before .before .before .before .before .before .before .before .before .before .before .before .before .before in
-    let wide : length (c .before .before .before .before .before .before .before .before .before .before .before .before .before .before .before .before .before .before .before .settled .result .bytes) ≡ 512 = ap (λ (st : Store). length (st .bytes)) (c .before .before .before .before .before .before .before .before .before .before .before .before .before .before .before .before .before .before .before .settled .ensures) ∙ layOut-bytes (queueOf (c .before .before .before .before .before .before .before .before .before .before .before .before .before .before .before .before .before .before .before .before .take-store .result)) in
+    let at-settled = (from-lay-numbers (from-lay-numbers2 (from-lay-bytes-arg3 c))) .before .before .before in
+    let at-take-store = at-settled .before in
+    let s = from-take-store at-take-store in
+    let wide : length (at-settled .settled .result .bytes) ≡ 512 = ap (λ (st : Store). length (st .bytes)) (at-settled .settled .ensures) ∙ layOut-bytes (queueOf (at-take-store .take-store .result)) in
     omega (arith, wide, s .pre .1 .few, s .pre .0 .1)
 
 same-length : tie.Need-same-length
@@ -65,21 +91,29 @@ same-length-2 c = search needs
 
 returns : tie.Need-returns
 returns c =
-    let s = c .before .before .before .before .before .before .before .before .before .before .before .before .before .before .before .before .before .before .before .before .before .before .before .before .before .before .before .before in
+    let at-lay-bytes = from-slice-known5 c in
+    let at-lay-numbers2 = from-lay-bytes at-lay-bytes in
+    let at-lay-numbers = from-lay-numbers2 at-lay-numbers2 in
+    let at-number3 = from-lay-numbers at-lay-numbers in
+    let at-number2 = at-number3 .before in
+    let at-number = at-number2 .before in
+    let at-settled = at-number .before in
+    let at-take-store = at-settled .before in
+    let s = from-take-store at-take-store in
     let numbers = s .args .numbers .now in
     let bytes = s .args .bytes .now in
     let k = s .args .k in
     let to = s .args .out-numbers .now in
-    let st = c .before .before .before .before .before .before .before .before .before .before .before .before .before .before .before .before .before .before .before .before .before .before .settled .result in
-    let settled : st ≡ layOut (queueOf (storeAt numbers bytes k)) = c .before .before .before .before .before .before .before .before .before .before .before .before .before .before .before .before .before .before .before .before .before .before .settled .ensures ∙ ap (λ held. layOut (queueOf held)) (c .before .before .before .before .before .before .before .before .before .before .before .before .before .before .before .before .before .before .before .before .before .before .before .take-store .ensures) in
-    let first = c .before .before .before .before .before .before .before .before .before .before .before .before .before .before .before .before .before .before .before .before .before .number .result ∷ c .before .before .before .before .before .before .before .before .before .before .before .before .before .before .before .before .before .before .before .before .number2 .result ∷ c .before .before .before .before .before .before .before .before .before .before .before .before .before .before .before .before .before .before .before .number3 .result ∷ st .oldest ∷ st .count ∷ [] in
+    let st = at-settled .settled .result in
+    let settled : st ≡ layOut (queueOf (storeAt numbers bytes k)) = at-settled .settled .ensures ∙ ap (λ held. layOut (queueOf held)) (at-take-store .take-store .ensures) in
+    let first = at-number .number .result ∷ at-number2 .number2 .result ∷ at-number3 .number3 .result ∷ st .oldest ∷ st .count ∷ [] in
     record {
       numbersLaid =
-          c .before .before .before .before .before .before .before .before .before .lay-numbers2 .ensures
-          ∙ ap (λ l. pasted l (13 * k + 5) (st .lengths)) (c .before .before .before .before .before .before .before .before .before .before .before .before .before .before .before .before .lay-numbers .ensures)
+          at-lay-numbers2 .lay-numbers2 .ensures
+          ∙ ap (λ l. pasted l (13 * k + 5) (st .lengths)) (at-lay-numbers .lay-numbers .ensures)
           ∙ pasted-behind to (13 * k) first (st .lengths) (omega (arith, s .pre .1 .few, s .pre .0 .0))
-          ∙ ap (pasted to (13 * k)) (row-laid numbers bytes k settled (c .before .before .before .before .before .before .before .before .before .before .before .before .before .before .before .before .before .before .before .before .before .number .ensures) (c .before .before .before .before .before .before .before .before .before .before .before .before .before .before .before .before .before .before .before .before .number2 .ensures) (c .before .before .before .before .before .before .before .before .before .before .before .before .before .before .before .before .before .before .before .number3 .ensures));
-      bytesLaid = c .before .before .lay-bytes .ensures ∙ ap (pasted (s .args .out-bytes .now) (512 * k)) (block-laid numbers bytes k settled);
+          ∙ ap (pasted to (13 * k)) (row-laid numbers bytes k settled (at-number .number .ensures) (at-number2 .number2 .ensures) (at-number3 .number3 .ensures));
+      bytesLaid = at-lay-bytes .lay-bytes .ensures ∙ ap (pasted (s .args .out-bytes .now) (512 * k)) (block-laid numbers bytes k settled);
     }
 
 pub put-port-spec : {M : Type 1} → statement M

@@ -22,15 +22,33 @@ Inv-loop numbers bytes n out-numbers₀ out-bytes₀ k₀ out-numbers out-bytes 
 abbrev μ-loop : tie.MeasureT-loop
 μ-loop numbers bytes n out-numbers₀ out-bytes₀ k₀ out-numbers out-bytes k = n - k
 
+-- the points on the way: from each the one before it that an answer names
+abbrev from-slice-known2 : tie.After-slice-known2 Inv-loop μ-loop → tie.Start Inv-loop μ-loop
+from-slice-known2 c = c .before .before .before .before
+
+abbrev from-at-loop : tie.At-loop Inv-loop μ-loop → tie.Start Inv-loop μ-loop
+from-at-loop c = c .before .before .before .before .before
+
+abbrev from-put-port-arg2 : tie.After-put-port-arg2 Inv-loop μ-loop → tie.At-loop Inv-loop μ-loop
+from-put-port-arg2 c = c .before .before .before
+
+abbrev from-put-port : tie.After-put-port Inv-loop μ-loop → tie.At-loop Inv-loop μ-loop
+from-put-port c = c .before .before .before .before
+
+abbrev from-slice-known4 : tie.After-slice-known4 Inv-loop μ-loop → tie.After-put-port Inv-loop μ-loop
+from-slice-known4 c = c .before .before .before .before
+
 loop-holds : tie.Need-loop-holds Inv-loop μ-loop
 loop-holds c =
-    let a = c .before .before .before .before .args in
+    let s = from-slice-known2 c in
+    let a = s .args in
     (omega arith, refl, refl, numbers-none (a .numbers .now) (a .bytes .now) (a .out-numbers .now), bytes-none (a .numbers .now) (a .bytes .now) (a .out-bytes .now))
 
 put-port-requires : tie.Need-put-port-requires Inv-loop μ-loop
 put-port-requires c κs =
-    let s = c .before .before .before .before .before .before .before .before in
-    let l = c .before .before .before .loop in
+    let at-at-loop = from-put-port-arg2 c in
+    let s = from-at-loop at-at-loop in
+    let l = at-at-loop .loop in
     let stored = s .pre .1 in
     let more : l .k < s .args .n = omega arith in (
       (l .inv .1 ∙ s .pre .0 .0, l .inv .2 ∙ s .pre .0 .1),
@@ -45,9 +63,12 @@ loop-less c = search needs
 
 loop-again : tie.Need-loop-again Inv-loop μ-loop
 loop-again c =
-    let a = c .before .before .before .before .before .before .before .before .before .before .before .before .before .args in
-    let l = c .before .before .before .before .before .before .before .before .loop in
-    let put = c .before .before .before .before .put-port in (
+    let at-put-port = from-slice-known4 c in
+    let at-at-loop = from-put-port at-put-port in
+    let s = from-at-loop at-at-loop in
+    let a = s .args in
+    let l = at-at-loop .loop in
+    let put = at-put-port .put-port in (
       omega arith,
       put .kept .1 .1 .1 .0 ∙ l .inv .1,
       put .kept .1 .1 .1 .1 .0 ∙ l .inv .2,
@@ -63,8 +84,10 @@ same-length-2 c = search needs
 
 returns : tie.Need-returns Inv-loop μ-loop
 returns c =
-    let a = c .before .before .before .before .before .before .args in
-    let l = c .before .loop in
+    let at-at-loop = c .before in
+    let s = from-at-loop at-at-loop in
+    let a = s .args in
+    let l = at-at-loop .loop in
     let all : l .k ≡ a .n = omega arith in
     record {
       numbersPut = l .inv .3 ∙ ap (λ k. settledNumbers (portsOf (a .numbers .now) (a .bytes .now) k) (a .out-numbers .now)) all;

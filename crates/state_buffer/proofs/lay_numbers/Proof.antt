@@ -19,8 +19,20 @@ Inv-loop out₀ at numbers i₀ out i = (i ≤ length numbers) × (length out �
 abbrev μ-loop : tie.MeasureT-loop
 μ-loop out₀ at numbers i₀ out i = length numbers - i
 
+-- the points on the way: from each the one before it that an answer names
+abbrev from-shared-slice-known : tie.After-shared-slice-known Inv-loop μ-loop → tie.Start Inv-loop μ-loop
+from-shared-slice-known c = c .before .before
+
+abbrev from-at-loop : tie.At-loop Inv-loop μ-loop → tie.Start Inv-loop μ-loop
+from-at-loop c = c .before .before .before
+
+abbrev from-lay-number : tie.After-lay-number Inv-loop μ-loop → tie.At-loop Inv-loop μ-loop
+from-lay-number c = c .before .before .before .before
+
 loop-holds : tie.Need-loop-holds Inv-loop μ-loop
-loop-holds c = (omega arith, refl, sym (pasted-none (c .before .before .args .out .now) (c .before .before .args .at)))
+loop-holds c =
+    let s = from-shared-slice-known c in
+    (omega arith, refl, sym (pasted-none (s .args .out .now) (s .args .at)))
 
 mul-lay-number : tie.Need-mul-lay-number Inv-loop μ-loop
 mul-lay-number c = search needs
@@ -45,14 +57,18 @@ loop-less c = search needs
 
 loop-again : tie.Need-loop-again Inv-loop μ-loop
 loop-again c =
-    let s = c .before .before .before .before .before .before .before .before .before .args in
-    let l = c .before .before .before .before .before .before .loop in
+    let at-out = c .before in
+    let at-lay-number = at-out .before in
+    let at-at-loop = from-lay-number at-lay-number in
+    let s' = from-at-loop at-at-loop in
+    let s = s' .args in
+    let l = at-at-loop .loop in
     let numbers = s .numbers .now in
     let so-far = bytesOfAll (take (l .i) numbers) in
     let long : length so-far ≡ 4 * l .i = all-length (take (l .i) numbers) ∙ ap (λ n. 4 * n) (length-take-le (l .i) numbers (omega arith)) in
-    let laid = c .before .before .lay-number .ensures in (
+    let laid = at-lay-number .lay-number .ensures in (
       omega arith,
-      omega (arith, c .before .out .given, l .inv .1),
+      omega (arith, at-out .out .given, l .inv .1),
       laid
           ∙ ap₂ (λ o k. pasted o (s .at + k) (bytes32 (getD numbers (l .i) 0))) (l .inv .2) (sym long)
           ∙ pasted-behind (s .out .now) (s .at) so-far (bytes32 (getD numbers (l .i) 0)) (omega arith)
@@ -64,8 +80,10 @@ same-length c = search needs
 
 returns : tie.Need-returns Inv-loop μ-loop
 returns c =
-    let s = c .before .before .before .before .args in
-    let l = c .before .loop in
+    let at-at-loop = c .before in
+    let s' = from-at-loop at-at-loop in
+    let s = s' .args in
+    let l = at-at-loop .loop in
     let all : l .i ≡ length (s .numbers .now) = omega arith in
     l .inv .2 ∙ rw (all, take-length (s .numbers .now)) refl
 

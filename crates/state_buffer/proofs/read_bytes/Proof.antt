@@ -17,6 +17,10 @@ Inv-loop b at out₀ i₀ out i = (i ≤ length out₀) × (length out ≡ lengt
 abbrev μ-loop : tie.MeasureT-loop
 μ-loop b at out₀ i₀ out i = length out₀ - i
 
+-- the points on the way: from each the one before it that an answer names
+abbrev from-shared-slice-known : tie.After-shared-slice-known Inv-loop μ-loop → tie.At-loop Inv-loop μ-loop
+from-shared-slice-known c = c .before .before
+
 loop-holds : tie.Need-loop-holds Inv-loop μ-loop
 loop-holds c =
     let s = c .args in
@@ -39,8 +43,10 @@ loop-less c = search needs
 
 loop-again : tie.Need-loop-again Inv-loop μ-loop
 loop-again c =
-    let s = c .before .before .before .args in
-    let l = c .before .before .loop in
+    let at-at-loop = from-shared-slice-known c in
+    let s' = at-at-loop .before in
+    let s = s' .args in
+    let l = at-at-loop .loop in
     let n = length (s .out .now) in
     let long : length (take n (drop (s .at) (s .b .now))) ≡ n = part-long (s .b .now) (s .at) n (omega arith) in (
       omega arith,
@@ -56,8 +62,10 @@ same-length c = search needs
 
 returns : tie.Need-returns Inv-loop μ-loop
 returns c =
-    let s = c .before .before .args in
-    let l = c .before .loop in
+    let at-at-loop = c .before in
+    let s' = at-at-loop .before in
+    let s = s' .args in
+    let l = at-at-loop .loop in
     let part = take (length (s .out .now)) (drop (s .at) (s .b .now)) in
     let long = part-long (s .b .now) (s .at) (length (s .out .now)) (omega arith) in
     let all : l .i ≡ length part = omega (arith, long) in

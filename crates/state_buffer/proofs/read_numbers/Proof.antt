@@ -18,8 +18,20 @@ Inv-loop b at out₀ i₀ out i = (i ≤ length out₀) × (length out ≡ lengt
 abbrev μ-loop : tie.MeasureT-loop
 μ-loop b at out₀ i₀ out i = length out₀ - i
 
+-- the points on the way: from each the one before it that an answer names
+abbrev from-slice-known : tie.After-slice-known Inv-loop μ-loop → tie.Start Inv-loop μ-loop
+from-slice-known c = c .before .before
+
+abbrev from-at-loop : tie.At-loop Inv-loop μ-loop → tie.Start Inv-loop μ-loop
+from-at-loop c = c .before .before .before
+
+abbrev from-word32 : tie.After-word32 Inv-loop μ-loop → tie.At-loop Inv-loop μ-loop
+from-word32 c = c .before .before
+
 loop-holds : tie.Need-loop-holds Inv-loop μ-loop
-loop-holds c = (omega arith, refl, paste-zero (c .before .before .args .out .now) 0 (numbersFrom (c .before .before .args .b .now) (length (c .before .before .args .out .now)) (c .before .before .args .at)))
+loop-holds c =
+    let s = from-slice-known c in
+    (omega arith, refl, paste-zero (s .args .out .now) 0 (numbersFrom (s .args .b .now) (length (s .args .out .now)) (s .args .at)))
 
 mul-word32 : tie.Need-mul-word32 Inv-loop μ-loop
 mul-word32 c = search needs
@@ -44,8 +56,10 @@ loop-less c = search needs
 
 loop-again : tie.Need-loop-again Inv-loop μ-loop
 loop-again c =
-    let s = c .before .before .before .before .before .args in
-    let l = c .before .before .loop in
+    let at-at-loop = from-word32 c in
+    let s' = from-at-loop at-at-loop in
+    let s = s' .args in
+    let l = at-at-loop .loop in
     let n = length (s .out .now) in
     let numbers = numbersFrom (s .b .now) n (s .at) in (
       omega arith,

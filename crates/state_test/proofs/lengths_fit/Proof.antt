@@ -21,6 +21,13 @@ Inv-loop numbers k largest oldest count i₀ i = (i ≤ count) × (lengthsFit la
 abbrev μ-loop : tie.MeasureT-loop
 μ-loop numbers k largest oldest count i₀ i = count - i
 
+-- the points on the way: from each the one before it that an answer names
+abbrev from-at-loop : tie.At-loop Inv-loop μ-loop → tie.Start Inv-loop μ-loop
+from-at-loop c = c .before .before
+
+abbrev from-number : tie.After-number Inv-loop μ-loop → tie.At-loop Inv-loop μ-loop
+from-number c = c .before .before
+
 loop-holds : tie.Need-loop-holds Inv-loop μ-loop
 loop-holds c =
     let a = c .before .args in
@@ -41,10 +48,13 @@ number-requires c κs = search needs
 
 returns : tie.Need-returns Inv-loop μ-loop
 returns c =
-    let a = c .before .before .before .before .before .args in
-    let l = c .before .before .before .loop in
+    let at-number = c .before in
+    let at-at-loop = from-number at-number in
+    let s = from-at-loop at-at-loop in
+    let a = s .args in
+    let l = at-at-loop .loop in
     let row = rowOf (a .numbers .now) (a .k) in
-    let read = c .before .number .ensures in
+    let read = at-number .number .ensures in
     let place = 5 + (a .oldest + l .i) % 8 in
     let more : l .i < a .count = omega arith in
     let low : leb 1 (getD row place 0) ≡ false = lt-leb 1 (getD row place 0) (omega (arith, read, c .if1 .taken)) in
@@ -52,13 +62,17 @@ returns c =
 
 returns-2 : tie.Need-returns-2 Inv-loop μ-loop
 returns-2 c =
-    let a = c .before .before .before .before .before .before .args in
-    let l = c .before .before .before .before .loop in
+    let at-else1 = c .before in
+    let at-number = at-else1 .before in
+    let at-at-loop = from-number at-number in
+    let s = from-at-loop at-at-loop in
+    let a = s .args in
+    let l = at-at-loop .loop in
     let row = rowOf (a .numbers .now) (a .k) in
-    let read = c .before .before .number .ensures in
+    let read = at-number .number .ensures in
     let place = 5 + (a .oldest + l .i) % 8 in
     let more : l .i < a .count = omega arith in
-    let some : leb 1 (getD row place 0) ≡ true = le-leb 1 (getD row place 0) (omega (arith, read, c .before .if1 .left)) in
+    let some : leb 1 (getD row place 0) ≡ true = le-leb 1 (getD row place 0) (omega (arith, read, at-else1 .if1 .left)) in
     let high : leb (getD row place 0) (a .largest) ≡ false = lt-leb (getD row place 0) (a .largest) (omega (arith, read, c .if2 .taken)) in
     sym (l .inv .1 ∙ all-stop (lengthFits (a .largest) row (a .oldest)) (a .count) (l .i) more (rw (some, high)))
 
@@ -70,21 +84,27 @@ loop-less c = search needs
 
 loop-again : tie.Need-loop-again Inv-loop μ-loop
 loop-again c =
-    let a = c .before .before .before .before .before .before .args in
-    let l = c .before .before .before .before .loop in
+    let at-else1 = c .before in
+    let at-number = at-else1 .before in
+    let at-at-loop = from-number at-number in
+    let s = from-at-loop at-at-loop in
+    let a = s .args in
+    let l = at-at-loop .loop in
     let row = rowOf (a .numbers .now) (a .k) in
-    let read = c .before .before .number .ensures in
+    let read = at-number .number .ensures in
     let place = 5 + (a .oldest + l .i) % 8 in
     let more : l .i < a .count = omega arith in
     let fits : lengthFits (a .largest) row (a .oldest) (l .i) ≡ true =
-    is-between 1 (a .largest) (getD row place 0) (omega (arith, read, c .before .if1 .left)) (omega (arith, read, c .if2 .left))
+    is-between 1 (a .largest) (getD row place 0) (omega (arith, read, at-else1 .if1 .left)) (omega (arith, read, c .if2 .left))
     in
     (omega arith, l .inv .1 ∙ all-more (lengthFits (a .largest) row (a .oldest)) (a .count) (l .i) more fits)
 
 returns-3 : tie.Need-returns-3 Inv-loop μ-loop
 returns-3 c =
-    let a = c .before .before .before .args in
-    let l = c .before .loop in
+    let at-at-loop = c .before in
+    let s = from-at-loop at-at-loop in
+    let a = s .args in
+    let l = at-at-loop .loop in
     sym (l .inv .1 ∙ all-end (lengthFits (a .largest) (rowOf (a .numbers .now) (a .k)) (a .oldest)) (a .count) (l .i) (omega arith))
 
 pub lengths-fit-spec : {M : Type 1} → statement M

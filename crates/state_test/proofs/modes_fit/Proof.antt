@@ -20,6 +20,13 @@ Inv-loop modes p₀ p = (p ≤ length modes) × (modesFit modes ≡ all (λ q. l
 abbrev μ-loop : tie.MeasureT-loop
 μ-loop modes p₀ p = length modes - p
 
+-- the points on the way: from each the one before it that an answer names
+abbrev from-then1 : tie.Then1 Inv-loop μ-loop → tie.At-loop Inv-loop μ-loop
+from-then1 c = c .before .before .before
+
+abbrev from-else1 : tie.Else1 Inv-loop μ-loop → tie.At-loop Inv-loop μ-loop
+from-else1 c = c .before .before .before
+
 loop-holds : tie.Need-loop-holds Inv-loop μ-loop
 loop-holds c =
     let modes = c .args .modes .now in
@@ -31,8 +38,10 @@ shared-slice-read-if1 c = search needs
 
 returns : tie.Need-returns Inv-loop μ-loop
 returns c =
-    let modes = c .before .before .before .before .args .modes .now in
-    let l = c .before .before .before .loop in
+    let at-at-loop = from-then1 c in
+    let s = at-at-loop .before in
+    let modes = s .args .modes .now in
+    let l = at-at-loop .loop in
     let above : leb (getD modes (l .p) 0) 3 ≡ false = lt-leb (getD modes (l .p) 0) 3 (c .if1 .taken) in
     sym (l .inv .1 ∙ all-stop (λ q. leb (getD modes q 0) 3) (length modes) (l .p) (omega arith) above)
 
@@ -44,15 +53,19 @@ loop-less c = search needs
 
 loop-again : tie.Need-loop-again Inv-loop μ-loop
 loop-again c =
-    let modes = c .before .before .before .before .args .modes .now in
-    let l = c .before .before .before .loop in
+    let at-at-loop = from-else1 c in
+    let s = at-at-loop .before in
+    let modes = s .args .modes .now in
+    let l = at-at-loop .loop in
     let fits : leb (getD modes (l .p) 0) 3 ≡ true = le-leb (getD modes (l .p) 0) 3 (c .if1 .left) in
     (omega arith, l .inv .1 ∙ all-more (λ q. leb (getD modes q 0) 3) (length modes) (l .p) (omega arith) fits)
 
 returns-2 : tie.Need-returns-2 Inv-loop μ-loop
 returns-2 c =
-    let modes = c .before .before .args .modes .now in
-    let l = c .before .loop in
+    let at-at-loop = c .before in
+    let s = at-at-loop .before in
+    let modes = s .args .modes .now in
+    let l = at-at-loop .loop in
     sym (l .inv .1 ∙ all-end (λ q. leb (getD modes q 0) 3) (length modes) (l .p) (omega arith))
 
 pub modes-fit-spec : {M : Type 1} → statement M

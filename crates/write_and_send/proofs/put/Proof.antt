@@ -20,21 +20,48 @@ use borrow.Author.Needs.{needs}
 use Rattle.write_and_send.proofs.put.Statement.{statement}
 use Rattle.write_and_send.proofs.put.Tie as tie
 
+-- the points on the way: from each the one before it that an answer names
+abbrev from-then1 : tie.Then1 → tie.Start
+from-then1 c = c .before .before .before .before .before
+
+abbrev from-else1 : tie.Else1 → tie.Start
+from-else1 c = c .before .before .before .before .before
+
+abbrev from-then2 : tie.Then2 → tie.Else1
+from-then2 c = c .before .before .before
+
+abbrev from-else2 : tie.Else2 → tie.Else1
+from-else2 c = c .before .before .before
+
+abbrev from-store-arg4 : tie.After-store-arg4 → tie.After-letter-of
+from-store-arg4 c = c .before .before .before .before .before
+
+abbrev from-store : tie.After-store → tie.After-letter-of
+from-store c = c .before .before .before .before .before .before
+
+abbrev from-done : tie.After-done → tie.After-store
+from-done c = c .before .before .before .before .before
+
 refusal-requires : tie.Need-refusal-requires
 refusal-requires c κs = search needs
 
 returns : tie.Need-returns
 returns c =
-    let a = c .before .before .before .before .before .before .args in
-    rw (put-empty _ _ (callOf (a .f)) _ (c .before .if1 .taken)) (kept (c .refusal .ensures))
+    let at-then1 = c .before in
+    let s = from-then1 at-then1 in
+    let a = s .args in
+    rw (put-empty _ _ (callOf (a .f)) _ (at-then1 .if1 .taken)) (kept (c .refusal .ensures))
 
 refusal-requires-2 : tie.Need-refusal-requires-2
 refusal-requires-2 c κs = search needs
 
 returns-2 : tie.Need-returns-2
 returns-2 c =
-    let a = c .before .before .before .before .before .before .before .before .before .args in
-    rw (put-long (rowOf (a .row)) _ (callOf (a .f)) _ (c .before .before .before .before .if1 .left) (c .before .if2 .taken)) (kept (c .refusal2 .ensures))
+    let at-then2 = c .before in
+    let at-else1 = from-then2 at-then2 in
+    let s = from-else1 at-else1 in
+    let a = s .args in
+    rw (put-long (rowOf (a .row)) _ (callOf (a .f)) _ (at-else1 .if1 .left) (at-then2 .if2 .taken)) (kept (c .refusal2 .ensures))
 
 directed-requires : tie.Need-directed-requires
 directed-requires c κs = search needs
@@ -44,19 +71,28 @@ refusal-requires-3 c κs = search needs
 
 returns-3 : tie.Need-returns-3
 returns-3 c =
-    let a = c .before .before .before .before .before .before .before .before .before .before .before .args in
-    rw (put-wrong (rowOf (a .row)) _ (callOf (a .f)) _ (c .before .before .before .before .before .before .if1 .left) (c .before .before .before .if2 .left) (sym (c .before .before .directed .ensures) ∙ not-true _ (c .before .if3 .taken))) (kept (c .refusal3 .ensures))
+    let at-then3 = c .before in
+    let at-directed = at-then3 .before in
+    let at-else2 = at-directed .before in
+    let at-else1 = from-else2 at-else2 in
+    let s = from-else1 at-else1 in
+    let a = s .args in
+    rw (put-wrong (rowOf (a .row)) _ (callOf (a .f)) _ (at-else1 .if1 .left) (at-else2 .if2 .left) (sym (at-directed .directed .ensures) ∙ not-true _ (at-then3 .if3 .taken))) (kept (c .refusal3 .ensures))
 
 letter-of-requires : tie.Need-letter-of-requires
 letter-of-requires c κs =
-    let f = c .before .before .before .before .before .before .before .before .before .before .pre .0 in
-    (omega (arith, c .before .before .if2 .left, f .ranges .fewBytes), omega (arith, c .before .before .if2 .left, f .ranges .fewBytes, c .before .before .before .before .before .before .before .before .before .before .pre .1 .0))
+    let at-else2 = c .before .before in
+    let s = from-else1 (from-else2 at-else2) in
+    let f = s .pre .0 in
+    (omega (arith, at-else2 .if2 .left, f .ranges .fewBytes), omega (arith, at-else2 .if2 .left, f .ranges .fewBytes, s .pre .1 .0))
 
 store-requires : tie.Need-store-requires
 store-requires c κs =
-    let s = c .before .before .before .before .before .before .before .before .before .before .before .before .before .before .before .before in
-    let letter = c .before .before .before .before .before .letter-of .ensures in
-    let few : s .args .f .size ≤ 64 = omega (arith, c .before .before .before .before .before .before .before .before .if2 .left, s .pre .0 .ranges .fewBytes) in (
+    let at-letter-of = from-store-arg4 c in
+    let at-else2 = at-letter-of .before .before .before in
+    let s = from-else1 (from-else2 at-else2) in
+    let letter = at-letter-of .letter-of .ensures in
+    let few : s .args .f .size ≤ 64 = omega (arith, at-else2 .if2 .left, s .pre .0 .ranges .fewBytes) in (
       s .pre .0,
       (
         subst (λ (l : Letter). l .size ≤ 64) (sym letter) (few-written (s .args .event .now) (s .args .f .size) few),
@@ -75,17 +111,24 @@ same-length-2 c = search needs
 
 returns-4 : tie.Need-returns-4
 returns-4 c =
-    let a = c .before .before .before .before .before .before .before .before .before .before .before .before .before .before .before .before .before .before .before .before .before .before .args in
+    let at-store = from-done c in
+    let at-letter-of = from-store at-store in
+    let at-else3 = at-letter-of .before in
+    let at-directed = at-else3 .before in
+    let at-else2 = at-directed .before in
+    let at-else1 = from-else2 at-else2 in
+    let s = from-else1 at-else1 in
+    let a = s .args in
     let r = rowOf (a .row) in
     let e = a .event .now in
     let f = callOf (a .f) in
     let q = portAt (a .numbers .now) (a .bytes .now) (a .k) in
-    let some = c .before .before .before .before .before .before .before .before .before .before .before .before .before .before .before .before .before .if1 .left in
-    let room = c .before .before .before .before .before .before .before .before .before .before .before .before .before .before .if2 .left in
-    let source = sym (c .before .before .before .before .before .before .before .before .before .before .before .before .before .directed .ensures) ∙ not-false _ (c .before .before .before .before .before .before .before .before .before .before .before .before .if3 .left) in
-    let letter = c .before .before .before .before .before .before .before .before .before .before .before .letter-of .ensures in
-    let long : a .f .size ≤ 64 = omega (arith, room, c .before .before .before .before .before .before .before .before .before .before .before .before .before .before .before .before .before .before .before .before .before .before .pre .0 .ranges .fewBytes) in
-    rw (put-stored r e f q some room source) (c .done .ensures, put-is {q = withQueue q (stored r (q .queue) (written (c .before .before .before .before .before .before .before .before .before .before .before .letter-of .result)))} (c .before .before .before .before .before .store .ensures) (ap (λ m. withQueue q (stored r (q .queue) m)) (ap written letter ∙ written-back e (a .f .size) long)))
+    let some = at-else1 .if1 .left in
+    let room = at-else2 .if2 .left in
+    let source = sym (at-directed .directed .ensures) ∙ not-false _ (at-else3 .if3 .left) in
+    let letter = at-letter-of .letter-of .ensures in
+    let long : a .f .size ≤ 64 = omega (arith, room, s .pre .0 .ranges .fewBytes) in
+    rw (put-stored r e f q some room source) (c .done .ensures, put-is {q = withQueue q (stored r (q .queue) (written (at-letter-of .letter-of .result)))} (at-store .store .ensures) (ap (λ m. withQueue q (stored r (q .queue) m)) (ap written letter ∙ written-back e (a .f .size) long)))
 
 pub put-spec : {M : Type 1} → statement M
 put-spec =

@@ -13,6 +13,28 @@ use borrow.Author.Needs.{needs}
 use Rattle.write_and_send.proofs.store.Statement.{statement}
 use Rattle.write_and_send.proofs.store.Tie as tie
 
+-- the points on the way: from each the one before it that an answer names
+abbrev from-enum-told : tie.After-enum-told → tie.Start
+from-enum-told c = c .before .before .before .before .before
+
+abbrev from-empty : tie.After-empty → tie.After-enum-told
+from-empty c = c .before .before .before
+
+abbrev from-slice-known4 : tie.After-slice-known4 → tie.After-put-store
+from-slice-known4 c = c .before .before .before .before
+
+abbrev from-transfer : tie.After-transfer → tie.Start
+from-transfer c = c .before .before .before .before .before
+
+abbrev from-offer-arg2 : tie.After-offer-arg2 → tie.After-transfer
+from-offer-arg2 c = c .before .before .before
+
+abbrev from-offer : tie.After-offer → tie.After-transfer
+from-offer c = c .before .before .before .before
+
+abbrev from-slice-known6 : tie.After-slice-known6 → tie.After-offer
+from-slice-known6 c = c .before .before .before .before
+
 enum-told : tie.Need-enum-told
 enum-told c = search needs
 
@@ -31,9 +53,11 @@ enum-known-transfer c = search needs
 
 offer-requires : tie.Need-offer-requires
 offer-requires c κs =
-    let told = c .before .before .before .transfer .given in
-    let f = c .before .before .before .before .before .before .before .before .pre .0 in
-    (f .lent, ((depth-few (c .before .before .before .before .before .before .before .before .args .row) (told .0 .0) (f .ranges) (told .1), c .before .before .before .before .before .before .before .before .pre .1 .0), c .before .before .before .before .before .before .before .before .pre .1 .1))
+    let at-transfer = from-offer-arg2 c in
+    let s = from-transfer at-transfer in
+    let told = at-transfer .transfer .given in
+    let f = s .pre .0 in
+    (f .lent, ((depth-few (s .args .row) (told .0 .0) (f .ranges) (told .1), s .pre .1 .0), s .pre .1 .1))
 
 same-length : tie.Need-same-length
 same-length c = search needs
@@ -43,13 +67,18 @@ same-length-2 c = search needs
 
 returns : tie.Need-returns
 returns c =
-    let a = c .before .before .before .before .before .before .before .before .before .before .before .before .before .before .args in
+    let at-put-store = from-slice-known4 c in
+    let at-append = at-put-store .before in
+    let at-empty = at-append .before in
+    let at-enum-told = from-empty at-empty in
+    let s = from-enum-told at-enum-told in
+    let a = s .args in
     let q = portAt (a .numbers .now) (a .bytes .now) (a .k) in
-    let told = c .before .before .before .before .before .before .before .before .before .enum-told .given in
-    put-is (c .before .before .before .before .put-store .ensures)
+    let told = at-enum-told .enum-told .given in
+    put-is (at-put-store .put-store .ensures)
     (ap (withQueue q)
-    (ap queueOf (c .before .before .before .before .before .append .ensures ∙ ap (λ st. appended st (lettered (a .letter .now) (a .size))) (c .before .before .before .before .before .before .empty .ensures))
-    ∙ alone (lettered (a .letter .now) (a .size)) (c .before .before .before .before .before .before .before .before .before .before .before .before .before .before .pre .1 .1) (c .before .before .before .before .before .before .before .before .before .before .before .before .before .before .pre .1 .0)
+    (ap queueOf (at-append .append .ensures ∙ ap (λ st. appended st (lettered (a .letter .now) (a .size))) (at-empty .empty .ensures))
+    ∙ alone (lettered (a .letter .now) (a .size)) (s .pre .1 .1) (s .pre .1 .0)
     ∙ sym (stored-sampling (a .row) (told .0 .0) (q .queue) (written (lettered (a .letter .now) (a .size))) (told .1))))
 
 same-length-3 : tie.Need-same-length-3
@@ -60,10 +89,13 @@ same-length-4 c = search needs
 
 returns-2 : tie.Need-returns-2
 returns-2 c =
-    let a = c .before .before .before .before .before .before .before .before .before .before .before .before .before .args in
+    let at-offer = from-slice-known6 c in
+    let at-transfer = from-offer at-offer in
+    let s = from-transfer at-transfer in
+    let a = s .args in
     let q = portAt (a .numbers .now) (a .bytes .now) (a .k) in
-    let told = c .before .before .before .before .before .before .before .before .transfer .given in
-    put-is {q = withQueue q (offer (told .0 .0) (q .queue) (written (lettered (a .letter .now) (a .size))))} (c .before .before .before .before .offer .ensures) (ap (withQueue q) (sym (stored-queuing (a .row) (told .0 .0) (q .queue) (written (lettered (a .letter .now) (a .size))) (told .1))))
+    let told = at-transfer .transfer .given in
+    put-is {q = withQueue q (offer (told .0 .0) (q .queue) (written (lettered (a .letter .now) (a .size))))} (at-offer .offer .ensures) (ap (withQueue q) (sym (stored-queuing (a .row) (told .0 .0) (q .queue) (written (lettered (a .letter .now) (a .size))) (told .1))))
 
 pub store-spec : {M : Type 1} → statement M
 store-spec =
