@@ -12,8 +12,10 @@ const SLOTS: usize = GREATEST_DEPTH;
 
 /// The whole state of a kernel: 36,120 bytes in place, which a host may put into a `Box` or a static.
 ///
-/// Any bytes are a state, in range or not; each call tests them. After a list that was run equal
-/// states are equal bytes.
+/// Any bytes are a state, in range or not; each call tests them. After a list that was run and is
+/// not empty, the part of the bytes that belongs to the tables' ports depends on nothing but the
+/// state: two states that hold the same have it the same. Rows beyond the tables' ports stay as
+/// they came, so two such states may still differ there.
 #[derive(Clone, PartialEq, Eq)]
 pub struct State {
     bytes: [u8; STATE_SIZE],

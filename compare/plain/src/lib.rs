@@ -7,7 +7,7 @@
 //! - `tables`: accepted tables parsed once into rows
 //! - `state`: the state, its stores, test 29, sameness
 //! - `codes`: event codes, return codes, doers, and what each code needs
-//! - `port_services`: codes 1 to 12
+//! - `services`: codes 1 to 12
 //! - `kernel`: one step, a run, the reader of answers
 //! - `runner`: the runner program
 //! - `make`: tables, event lists and states to test with

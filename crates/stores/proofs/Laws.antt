@@ -152,7 +152,3 @@ layOut-next st i more room =
     let counted : length (take i (queueOf st)) ≡ i = length-take-le i (queueOf st) (omega arith) in
     rw (← (queue-at st i more), ← (layOut-append (take i (queueOf st)) (getD (queueOf st) i []) (omega arith)), add-one)
     (ap layOut (sym (take-suc (queueOf st) i [] inside)))
-
--- two stores that are settled and hold the same are equal
-pub settled-equal : (a b : Store) → a ≡ layOut (queueOf a) → b ≡ layOut (queueOf b) → queueOf a ≡ queueOf b → a ≡ b
-settled-equal a b settled-a settled-b same = settled-a ∙ ap layOut same ∙ sym settled-b

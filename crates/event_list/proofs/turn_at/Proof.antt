@@ -14,6 +14,16 @@ use Rattle.event_list.proofs.Bytes.{bytes-replied}
 use Rattle.event_list.proofs.turn_at.Statement.{statement}
 use Rattle.event_list.proofs.turn_at.Tie as tie
 
+-- the points on the way: from each the one before it that an answer names
+abbrev from-turn : tie.After-turn → tie.Start
+from-turn c = c .before .before .before .before .before .before .before .before .before .before .before
+
+abbrev from-lay-answer : tie.After-lay-answer → tie.After-turn
+from-lay-answer c = c .before .before .before .before .before .before .before .before .before
+
+abbrev from-result : tie.After-result → tie.After-lay-answer
+from-result c = c .before .before .before
+
 mul-at : tie.Need-mul-at
 mul-at c = search needs
 
@@ -59,7 +69,9 @@ same-length-4 c = search needs
 returns : tie.Need-returns
 unfolding answer
 returns c =
-    let s = c .before .before .before .before .before .before .before .before .before .before .before .before .before .before .before .before .before .before .before .before .before .before .before in
+    let at-lay-answer = from-result c in
+    let at-turn = from-lay-answer at-lay-answer in
+    let s = from-turn at-turn in
     let t = s .args .t .now in
     let i = s .args .i in
     let a = s .args .answers .now in
@@ -67,14 +79,14 @@ returns c =
     let st = shown t (clockOf (s .args .clock)) (s .args .modes .now) (s .args .numbers .now) (s .args .bytes .now) in
     let size : 80 * i + 80 - 80 * i ≡ 80 = omega arith in
     let done = subst
-    (λ k. Answers t (take k (drop (80 * i) es)) (s .args .clock) (s .args .modes .now) (s .args .numbers .now) (s .args .bytes .now) (c .before .before .before .before .before .before .before .before .before .before .before .before .turn .result .answer) (c .before .before .before .before .before .before .before .before .before .before .before .before .turn .result .clock) (c .before .before .before .before .before .before .before .before .before .before .before .before .turn .last .1 .1 .1 .0) (c .before .before .before .before .before .before .before .before .before .before .before .before .turn .last .1 .1 .1 .1 .0) (c .before .before .before .before .before .before .before .before .before .before .before .before .turn .last .1 .1 .1 .1 .1 .0))
-    size (c .before .before .before .before .before .before .before .before .before .before .before .before .turn .ensures)
+    (λ k. Answers t (take k (drop (80 * i) es)) (s .args .clock) (s .args .modes .now) (s .args .numbers .now) (s .args .bytes .now) (at-turn .turn .result .answer) (at-turn .turn .result .clock) (at-turn .turn .last .1 .1 .1 .0) (at-turn .turn .last .1 .1 .1 .1 .0) (at-turn .turn .last .1 .1 .1 .1 .1 .0))
+    size (at-turn .turn .ensures)
     in
     let e = take 80 (drop (80 * i) es) in
     record {
       answered =
           ap₂ (λ l r. take (80 * i) a ++ (l ++ r))
-          (c .before .before .before .lay-answer .ensures ∙ ap answerBytes (done .answered) ∙ bytes-replied (doer t st e) (reply t st e))
+          (at-lay-answer .lay-answer .ensures ∙ ap answerBytes (done .answered) ∙ bytes-replied (doer t st e) (reply t st e))
           (post-is (80 * i) (80 * i + 80) a (omega arith));
       left = done .left;
     }

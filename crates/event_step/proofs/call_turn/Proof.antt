@@ -12,9 +12,25 @@ use Rattle.event_step.proofs.Laws
 use Rattle.event_step.proofs.call_turn.Statement.{statement}
 use Rattle.event_step.proofs.call_turn.Tie as tie
 
+-- the points on the way: from each the one before it that an answer names
+abbrev from-shared-slice-known2 : tie.After-shared-slice-known2 → tie.Start
+from-shared-slice-known2 c = c .before .before .before .before .before
+
+abbrev from-window-partition : tie.After-window-partition → tie.Start
+from-window-partition c = c .before .before .before .before .before .before
+
+abbrev from-service-arg3 : tie.After-service-arg3 → tie.Else1
+from-service-arg3 c = c .before .before .before
+
+abbrev from-service : tie.After-service → tie.Else1
+from-service c = c .before .before .before .before
+
+abbrev from-slice-known6 : tie.After-slice-known6 → tie.After-service
+from-slice-known6 c = c .before .before .before .before .before .before
+
 window-partition-requires : tie.Need-window-partition-requires
 window-partition-requires c κs =
-    let s = c .before .before .before .before .before in
+    let s = from-shared-slice-known2 c in
     let t = s .args .t .now in
     let h = s .pre .0 in
     let a = accepted t (h .held .accepted) in
@@ -25,19 +41,23 @@ refusal-requires c κs = search needs
 
 returns : tie.Need-returns
 returns c =
-    let s = c .before .before .before .before .before .before .before .before in
-    Laws.acts (Laws.at-mover-call (s .args .t .now) _ (s .args .event .now) (callOf (s .args .f)) (s .pre .1 .1) (sym (c .before .before .window-partition .ensures) ∙ c .before .if1 .taken)) (refused-does (c .refusal .ensures))
+    let at-then1 = c .before in
+    let at-window-partition = at-then1 .before in
+    let s = from-window-partition at-window-partition in
+    Laws.acts (Laws.at-mover-call (s .args .t .now) _ (s .args .event .now) (callOf (s .args .f)) (s .pre .1 .1) (sym (at-window-partition .window-partition .ensures) ∙ at-then1 .if1 .taken)) (refused-does (c .refusal .ensures))
 
 service-requires : tie.Need-service-requires
 service-requires c κs =
-    let s = c .before .before .before .before .before .before .before .before .before .before in
+    let at-else1 = from-service-arg3 c in
+    let at-window-partition = at-else1 .before in
+    let s = from-window-partition at-window-partition in
     let t = s .args .t .now in
     let e = s .args .event .now in
     let k = s .args .clock in
     let h = s .pre .0 in
     let a = accepted t (h .held .accepted) in
-    let few = Laws.owner-few t a (k .window) (h .ranged .inWindow) (λ z. c .before .before .before .if1 .left (c .before .before .before .before .window-partition .ensures ∙ z)) in
-    (h .held, (record { whole = s .pre .1 .0; coded = Laws.decoded-known e (callOf (s .args .f)) (s .pre .1 .1) }, omega (arith, few, c .before .before .before .before .window-partition .ensures, h .ranged .sixteen)))
+    let few = Laws.owner-few t a (k .window) (h .ranged .inWindow) (λ z. at-else1 .if1 .left (at-window-partition .window-partition .ensures ∙ z)) in
+    (h .held, (record { whole = s .pre .1 .0; coded = Laws.decoded-known e (callOf (s .args .f)) (s .pre .1 .1) }, omega (arith, few, at-window-partition .window-partition .ensures, h .ranged .sixteen)))
 
 same-length : tie.Need-same-length
 same-length c = search needs
@@ -50,7 +70,10 @@ same-length-3 c = search needs
 
 returns-2 : tie.Need-returns-2
 returns-2 c =
-    let s = c .before .before .before .before .before .before .before .before .before .before .before .before .before .before .before .before .before in
+    let at-service = from-slice-known6 c in
+    let at-else1 = from-service at-service in
+    let at-window-partition = at-else1 .before in
+    let s = from-window-partition at-window-partition in
     let t = s .args .t .now in
     let ms = s .args .modes .now in
     let n = s .args .numbers .now in
@@ -58,9 +81,9 @@ returns-2 c =
     let e = s .args .event .now in
     let k = s .args .clock in
     let st = shown t (clockOf k) ms n b in
-    let o = c .before .before .before .before .before .before .before .before .before .before .before .window-partition .ensures in
+    let o = at-window-partition .window-partition .ensures in
     let f = callOf (s .args .f) in
-    Laws.acts (subst (λ p. Laws.At t st e p (service t (k .time) st p e f)) (sym o) (Laws.at-call t st e f (s .pre .1 .1) (λ z. c .before .before .before .before .before .before .before .before .before .before .if1 .left (o ∙ z)))) (c .before .before .before .before .before .before .service .ensures (clockOf k))
+    Laws.acts (subst (λ p. Laws.At t st e p (service t (k .time) st p e f)) (sym o) (Laws.at-call t st e f (s .pre .1 .1) (λ z. at-else1 .if1 .left (o ∙ z)))) (at-service .service .ensures (clockOf k))
 
 pub call-turn-spec : {M : Type 1} → statement M
 call-turn-spec =

@@ -12,6 +12,16 @@ use Rattle.event_step.proofs.Laws
 use Rattle.event_step.proofs.tick.Statement.{statement}
 use Rattle.event_step.proofs.tick.Tie as tie
 
+-- the points on the way: from each the one before it that an answer names
+abbrev from-window-length : tie.After-window-length → tie.Start
+from-window-length c = c .before .before
+
+abbrev from-then1 : tie.Then1 → tie.After-later
+from-then1 c = c .before .before
+
+abbrev from-else1 : tie.Else1 → tie.After-later
+from-else1 c = c .before .before
+
 window-length-requires : tie.Need-window-length-requires
 window-length-requires c κs =
     let s = c .before in
@@ -30,19 +40,23 @@ add-t9 c = search needs
 
 returns : tie.Need-returns
 returns c =
-    let s = c .before .before .before .before .before in
+    let at-later = from-then1 c in
+    let at-window-length = at-later .before in
+    let s = from-window-length at-window-length in
     let t = s .args .t .now in
     let k = s .args .clock in
-    let time = c .before .before .later .ensures ∙ ap (λ x. wrap (k .time + x)) (c .before .before .before .window-length .ensures) in
+    let time = at-later .later .ensures ∙ ap (λ x. wrap (k .time + x)) (at-window-length .window-length .ensures) in
     let next : suc (k .window) < windows t = omega (arith, s .pre .1 .windowed, c .if1 .taken) in
     rw (time, add-one (k .window)) (sym (Laws.tick-next t (clockOf k) next))
 
 returns-2 : tie.Need-returns-2
 returns-2 c =
-    let s = c .before .before .before .before .before in
+    let at-later = from-else1 c in
+    let at-window-length = at-later .before in
+    let s = from-window-length at-window-length in
     let t = s .args .t .now in
     let k = s .args .clock in
-    let time = c .before .before .later .ensures ∙ ap (λ x. wrap (k .time + x)) (c .before .before .before .window-length .ensures) in
+    let time = at-later .later .ensures ∙ ap (λ x. wrap (k .time + x)) (at-window-length .window-length .ensures) in
     let last : windows t ≤ suc (k .window) = omega (arith, s .pre .1 .windowed, c .if1 .left) in
     rw time (sym (Laws.tick-first t (clockOf k) last))
 

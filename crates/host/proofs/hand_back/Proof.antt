@@ -7,10 +7,15 @@ use borrow.Author.Needs.{needs}
 use Rattle.host.proofs.hand_back.Statement.{statement}
 use Rattle.host.proofs.hand_back.Tie as tie
 
+-- the points on the way: from each the one before it that an answer names
+abbrev from-then1 : tie.Then1 → tie.Start
+from-then1 c = c .before .before .before .before
+
 returns : tie.Need-returns
 unfolding bufferOr
 returns c =
-    let s = c .before .before .before .before .args in
+    let s' = from-then1 c in
+    let s = s' .args in
     record { refusal = refl; state = rw (ne-eqb (s .ran .refusal) 0 (c .if1 .taken)) }
 
 returns-2 : tie.Need-returns-2

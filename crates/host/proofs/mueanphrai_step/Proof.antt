@@ -7,6 +7,28 @@ use borrow.Author.Needs.{needs}
 use Rattle.host.proofs.mueanphrai_step.Statement.{statement}
 use Rattle.host.proofs.mueanphrai_step.Tie as tie
 
+-- the points on the way: from each the one before it that an answer names
+abbrev from-then1 : tie.Then1 → tie.Start
+from-then1 c = c .before .before .before .before .before
+
+abbrev from-refused-size : tie.After-refused-size → tie.Then1
+from-refused-size c = c .before .before
+
+abbrev from-else1 : tie.Else1 → tie.Start
+from-else1 c = c .before .before .before .before .before
+
+abbrev from-state-of : tie.After-state-of → tie.Else1
+from-state-of c = c .before .before
+
+abbrev from-step : tie.After-step → tie.After-state-of
+from-step c = c .before .before
+
+abbrev from-hand-back : tie.After-hand-back → tie.After-step
+from-hand-back c = c .before .before .before .before
+
+abbrev from-slice-known4 : tie.After-slice-known4 → tie.After-hand-back
+from-slice-known4 c = c .before .before
+
 refused-size-requires : tie.Need-refused-size-requires
 refused-size-requires c κs = search needs
 
@@ -15,9 +37,11 @@ same-length c = search needs
 
 returns : tie.Need-returns
 returns c =
-    let s = c .before .before .before .before .before .before .before .args in
+    let at-then1 = from-refused-size c in
+    let s' = from-then1 at-then1 in
+    let s = s' .args in
     let from = s .state .now in
-    unsized (s .tables .now) from _ (s .event .now) (s .answers .now) (ne-eqb (length from) 36120 (c .before .before .if1 .taken)) (c .refused-size .ensures)
+    unsized (s .tables .now) from _ (s .event .now) (s .answers .now) (ne-eqb (length from) 36120 (at-then1 .if1 .taken)) (c .refused-size .ensures)
 
 state-of-requires : tie.Need-state-of-requires
 state-of-requires c κs = search needs
@@ -36,10 +60,15 @@ same-length-3 c = search needs
 
 returns-2 : tie.Need-returns-2
 returns-2 c =
-    let s = c .before .before .before .before .before .before .before .before .before .before .before .before .before .before .before .args in
+    let at-hand-back = from-slice-known4 c in
+    let at-step = from-hand-back at-hand-back in
+    let at-state-of = from-step at-step in
+    let at-else1 = from-state-of at-state-of in
+    let s' = from-else1 at-else1 in
+    let s = s' .args in
     let from = s .state .now in
     let es = s .event .now in
-    sized (s .tables .now) from (eqb (length es) 80) es (s .answers .now) (eq-eqb (length from) 36120 (c .before .before .before .before .before .before .before .before .before .before .if1 .left)) (c .before .before .before .before .before .before .before .before .state-of .ensures) (c .before .before .before .before .before .before .step .ensures) (c .before .before .hand-back .ensures)
+    sized (s .tables .now) from (eqb (length es) 80) es (s .answers .now) (eq-eqb (length from) 36120 (at-else1 .if1 .left)) (at-state-of .state-of .ensures) (at-step .step .ensures) (at-hand-back .hand-back .ensures)
 
 pub mueanphrai-step-spec : {M : Type 1} → statement M
 mueanphrai-step-spec =

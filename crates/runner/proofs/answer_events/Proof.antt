@@ -13,6 +13,13 @@ use Rattle.io.proofs.write_all.Reads as write-all-reads
 use Rattle.kernel.proofs.run.Reads as run-reads
 use Rattle.runner_text.proofs.lines.Reads as lines-reads
 
+-- the points on the way: from each the one before it that an answer names
+abbrev from-lines : tie.After-lines → tie.Start
+from-lines c = c .before .before .before .before .before .before .before .before
+
+abbrev from-text3 : tie.After-text3 → tie.After-lines
+from-text3 c = c .before .before
+
 slice-aggregate-run : tie.Need-slice-aggregate-run
 slice-aggregate-run c = search needs
 
@@ -29,10 +36,16 @@ lines-requires : tie.Need-lines-requires
 lines-requires c κs = search needs
 
 array-share-prefix-text : tie.Need-array-share-prefix-text
-array-share-prefix-text c = let l = c .before .lines in omega (arith, l .ensures .within, l .ensures .kept, length-replicate {A = ℕ} 127200 0, c .before .before .before .before .before .before .before .before .before .pre .0)
+array-share-prefix-text c =
+    let at-lines = c .before in
+    let s = from-lines at-lines in
+    let l = at-lines .lines in omega (arith, l .ensures .within, l .ensures .kept, length-replicate {A = ℕ} 127200 0, s .pre .0)
 
 slice-aggregate-print : tie.Need-slice-aggregate-print
-slice-aggregate-print c = sym (length-take-le _ _ (let l = c .before .before .lines in omega (arith, l .ensures .within, l .ensures .kept, length-replicate {A = ℕ} 127200 0, c .before .before .before .before .before .before .before .before .before .before .pre .0)))
+slice-aggregate-print c =
+    let at-lines = from-text3 c in
+    let s = from-lines at-lines in
+    sym (length-take-le _ _ (let l = at-lines .lines in omega (arith, l .ensures .within, l .ensures .kept, length-replicate {A = ℕ} 127200 0, s .pre .0)))
 
 print-requires : tie.Need-print-requires
 print-requires c κs = search needs

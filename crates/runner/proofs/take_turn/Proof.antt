@@ -14,6 +14,13 @@ use Rattle.runner_text.proofs.split.Reads as split-reads
 use Rattle.runner.proofs.answer_events.Reads as answer-events-reads
 use Rattle.runner.proofs.print_torn.Reads as print-torn-reads
 
+-- the points on the way: from each the one before it that an answer names
+abbrev from-read-full : tie.After-read-full → tie.Start
+from-read-full c = c .before .before .before
+
+abbrev from-events3 : tie.After-events3 → tie.After-read-full
+from-events3 c = c .before .before .before
+
 slice-aggregate-read-full : tie.Need-slice-aggregate-read-full
 slice-aggregate-read-full c = search needs
 
@@ -37,8 +44,10 @@ slice-aggregate-answer-events c = sym (length-take-le _ _ (search needs))
 
 answer-events-requires : tie.Need-answer-events-requires
 answer-events-requires c κs =
-    let r = c .before .before .before .read-full in
-    (simp length-take (omega (arith, r .kept .1 .0, length-replicate {A = ℕ} 32000 0)), omega (arith, c .before .before .before .before .before .before .pre))
+    let at-read-full = from-events3 c in
+    let s = from-read-full at-read-full in
+    let r = at-read-full .read-full in
+    (simp length-take (omega (arith, r .kept .1 .0, length-replicate {A = ℕ} 32000 0)), omega (arith, s .pre))
 
 print-torn-requires : tie.Need-print-torn-requires
 print-torn-requires c κs = search needs

@@ -15,6 +15,22 @@ whole-bytes c = search needs
 whole-numbers : (c : tie.Start) → length (c .args .state .numbers) ≡ 832
 whole-numbers c = search needs
 
+-- the points on the way: from each the one before it that an answer names
+abbrev from-run-events-arg : tie.After-run-events-arg → tie.Start
+from-run-events-arg c = c .before .before .before .before .before .before .before .before .before .before .before
+
+abbrev from-run-events : tie.After-run-events → tie.Start
+from-run-events c = c .before .before .before .before .before .before .before .before .before .before .before .before
+
+abbrev from-settled-bytes2 : tie.After-settled-bytes2 → tie.After-run-events
+from-settled-bytes2 c = c .before .before .before .before .before .before .before .before .before .before .before
+
+abbrev from-put-together : tie.After-put-together → tie.After-run-events
+from-put-together c = c .before .before .before .before .before .before .before .before .before .before .before .before
+
+abbrev from-struct-known2 : tie.After-struct-known2 → tie.After-put-together
+from-struct-known2 c = c .before .before .before
+
 cast-t13 : tie.Need-cast-t13
 cast-t13 c = search needs
 
@@ -29,7 +45,7 @@ slice-aggregate-run-events-3 c = search needs
 
 run-events-requires : tie.Need-run-events-requires
 run-events-requires c κs =
-    let s = c .before .before .before .before .before .before .before .before .before .before .before in
+    let s = from-run-events-arg c in
     let t = s .args .t .now in
     let st = s .args .state in
     (Laws.ready-of t (s .args .lay) st (s .pre .0 .0) (s .pre .0 .1) (s .pre .0 .2) (whole-numbers s) (whole-bytes s), s .pre .1 .1)
@@ -48,10 +64,11 @@ slice-aggregate-put-together-4 c = search needs
 
 put-together-requires : tie.Need-put-together-requires
 put-together-requires c κs =
-    let s = c .before .before .before .before .before .before .before .before .before .before .before .before .before .before .before .before .before .before .before .before .before .before .before in
+    let at-run-events = from-settled-bytes2 c in
+    let s = from-run-events at-run-events in
     let t = s .args .t .now in
     let a = accepted t (s .pre .0 .0) in
-    let ready = c .before .before .before .before .before .before .before .before .before .before .before .run-events .ensures .ready in (
+    let ready = at-run-events .run-events .ensures .ready in (
       (whole-numbers s, whole-bytes s),
       record {
         rows = ready .held .rows;
@@ -63,18 +80,21 @@ put-together-requires c κs =
 
 cast-t31 : tie.Need-cast-t31
 cast-t31 c =
-    let s = c .before .before .before .before .before .before .before .before .before .before .before .before .before .before .before .before .before .before .before .before .before .before .before .before .before .before .before in
+    let at-run-events = from-put-together (from-struct-known2 c) in
+    let s = from-run-events at-run-events in
     let t = s .args .t .now in
     let a = accepted t (s .pre .0 .0) in
-    record { fits = omega (arith, c .before .before .before .before .before .before .before .before .before .before .before .before .before .before .before .run-events .ensures .ready .ranged .inWindow, a .fewWindows) }
+    record { fits = omega (arith, at-run-events .run-events .ensures .ready .ranged .inWindow, a .fewWindows) }
 
 same-length : tie.Need-same-length
 same-length c = search needs
 
 returns : tie.Need-returns
 returns c =
-    let s = c .before .before .before .before .before .before .before .before .before .before .before .before .before .before .before .before .before .before .before .before .before .before .before .before .before .before .before in
-    Laws.carried-out (s .args .t .now) (s .args .lay) (s .args .state) (s .args .events .now) (s .args .answers .now) (s .pre .1 .0) (s .pre .0 .1 .ported) (c .before .before .before .before .before .before .before .before .before .before .before .before .before .before .before .run-events .ensures) (c .before .before .before .put-together .ensures)
+    let at-put-together = from-struct-known2 c in
+    let at-run-events = from-put-together at-put-together in
+    let s = from-run-events at-run-events in
+    Laws.carried-out (s .args .t .now) (s .args .lay) (s .args .state) (s .args .events .now) (s .args .answers .now) (s .pre .1 .0) (s .pre .0 .1 .ported) (at-run-events .run-events .ensures) (at-put-together .put-together .ensures)
 
 pub run-list-spec : {M : Type 1} → statement M
 run-list-spec =

@@ -6,20 +6,37 @@ use borrow.Author.Needs.{needs}
 use Rattle.tested_run.proofs.sound.Statement.{statement}
 use Rattle.tested_run.proofs.sound.Tie as tie
 
+-- the points on the way: from each the one before it that an answer names
+abbrev from-is-accepted : tie.After-is-accepted → tie.Start
+from-is-accepted c = c .before .before
+
+abbrev from-state-fits : tie.After-state-fits → tie.Else1
+from-state-fits c = c .before .before
+
 is-accepted-requires : tie.Need-is-accepted-requires
 is-accepted-requires c κs = search needs
 
 returns : tie.Need-returns
-returns c = sym (Laws.sound-not (c .before .before .before .args .t .now) (c .before .before .before .args .state) (sym (c .before .is-accepted .ensures) ∙ not-true _ (c .if1 .taken)))
+returns c =
+    let at-is-accepted = c .before in
+    let s = from-is-accepted at-is-accepted in
+    sym (Laws.sound-not (s .args .t .now) (s .args .state) (sym (at-is-accepted .is-accepted .ensures) ∙ not-true _ (c .if1 .taken)))
 
 layout-requires : tie.Need-layout-requires
 layout-requires c κs = search needs
 
 state-fits-requires : tie.Need-state-fits-requires
-state-fits-requires c κs = (sym (c .before .before .is-accepted .ensures) ∙ not-false _ (c .before .if1 .left), c .layout .ensures)
+state-fits-requires c κs =
+    let at-else1 = c .before in
+    let at-is-accepted = at-else1 .before in
+    (sym (at-is-accepted .is-accepted .ensures) ∙ not-false _ (at-else1 .if1 .left), c .layout .ensures)
 
 returns-2 : tie.Need-returns-2
-returns-2 c = sym (Laws.sound-is (c .before .before .before .before .before .args .t .now) (c .before .before .before .before .before .args .state) (sym (c .before .before .before .is-accepted .ensures) ∙ not-false _ (c .before .before .if1 .left)) (c .state-fits .ensures))
+returns-2 c =
+    let at-else1 = from-state-fits c in
+    let at-is-accepted = at-else1 .before in
+    let s = from-is-accepted at-is-accepted in
+    sym (Laws.sound-is (s .args .t .now) (s .args .state) (sym (at-is-accepted .is-accepted .ensures) ∙ not-false _ (at-else1 .if1 .left)) (c .state-fits .ensures))
 
 pub sound-spec : {M : Type 1} → statement M
 sound-spec =

@@ -11,6 +11,10 @@ whole-bytes c = search needs
 whole-numbers : (c : tie.Start) → length (c .args .state .numbers) ≡ 832
 whole-numbers c = search needs
 
+-- the points on the way: from each the one before it that an answer names
+abbrev from-in-range : tie.After-in-range → tie.Start
+from-in-range c = c .before .before .before .before .before .before
+
 slice-aggregate-in-range : tie.Need-slice-aggregate-in-range
 slice-aggregate-in-range c = search needs
 
@@ -21,7 +25,9 @@ in-range-requires : tie.Need-in-range-requires
 in-range-requires c κs = search needs
 
 returns : tie.Need-returns
-returns c = c .in-range .ensures (c .before .before .before .before .before .before .args .state .time) (c .before .before .before .before .before .before .args .state .bytes) (whole-bytes (c .before .before .before .before .before .before))
+returns c =
+    let s = from-in-range c in
+    c .in-range .ensures (s .args .state .time) (s .args .state .bytes) (whole-bytes (s))
 
 pub state-fits-spec : {M : Type 1} → statement M
 state-fits-spec =

@@ -12,6 +12,22 @@ use Rattle.runner_text.proofs.digits.hex_byte.Lts as lts
 use Rattle.runner_text.proofs.digits.hex_digit.Reads as hex-digit-reads
 use Rattle.runner_text.proofs.digits.letter.Reads as letter-reads
 
+-- the points on the way: from each the one before it that an answer names
+abbrev from-hex-digit : tie.After-hex-digit → tie.Start
+from-hex-digit c = c .before .before
+
+abbrev from-letter : tie.After-letter → tie.After-hex-digit
+from-letter c = c .before .before
+
+abbrev from-hex-digit2 : tie.After-hex-digit2 → tie.After-letter
+from-hex-digit2 c = c .before .before .before
+
+abbrev from-letter2 : tie.After-letter2 → tie.After-hex-digit2
+from-letter2 c = c .before .before
+
+abbrev from-slice-known3 : tie.After-slice-known3 → tie.After-letter2
+from-slice-known3 c = c .before .before
+
 hex-digit-requires : tie.Need-hex-digit-requires
 hex-digit-requires c κs = search needs
 
@@ -30,10 +46,15 @@ same-length c = search needs
 returns : tie.Need-returns
 unfolding hexByte
 returns c =
-    let f = c .before .before .before .before .before .before .before .letter .ensures in
-    Laws.wrote-then (omega (arith, c .before .before .before .before .before .before .before .before .before .before .before .pre))
-    (Laws.wrote-same (ap (λ d. d ∷ []) (c .before .before .before .before .before .before .before .before .before .hex-digit .ensures)) f)
-    (Laws.wrote-same (ap (λ d. d ∷ []) (c .before .before .before .before .hex-digit2 .ensures)) (c .before .before .letter2 .ensures))
+    let at-letter2 = from-slice-known3 c in
+    let at-hex-digit2 = from-letter2 at-letter2 in
+    let at-letter = from-hex-digit2 at-hex-digit2 in
+    let at-hex-digit = from-letter at-letter in
+    let s = from-hex-digit at-hex-digit in
+    let f = at-letter .letter .ensures in
+    Laws.wrote-then (omega (arith, s .pre))
+    (Laws.wrote-same (ap (λ d. d ∷ []) (at-hex-digit .hex-digit .ensures)) f)
+    (Laws.wrote-same (ap (λ d. d ∷ []) (at-hex-digit2 .hex-digit2 .ensures)) (at-letter2 .letter2 .ensures))
 
 pub hex-byte-spec : {M : Type 1} → statement M
 hex-byte-spec =

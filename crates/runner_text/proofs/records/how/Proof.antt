@@ -13,6 +13,28 @@ use Rattle.runner_text.proofs.records.wide.Reads as wide-reads
 use Rattle.runner_text.proofs.records.wider.Reads as wider-reads
 use Rattle.tables.proofs.word16.Reads as word16-reads
 
+-- the points on the way: from each the one before it that an answer names
+abbrev from-wide : tie.After-wide → tie.Start
+from-wide c = c .before .before .before .before
+
+abbrev from-field : tie.After-field → tie.After-wide
+from-field c = c .before .before
+
+abbrev from-wide2 : tie.After-wide2 → tie.After-field
+from-wide2 c = c .before .before .before .before
+
+abbrev from-field2 : tie.After-field2 → tie.After-wide2
+from-field2 c = c .before .before
+
+abbrev from-word16 : tie.After-word16 → tie.After-field2
+from-word16 c = c .before .before .before
+
+abbrev from-field3 : tie.After-field3 → tie.After-wider
+from-field3 c = c .before .before
+
+abbrev from-slice-known4 : tie.After-slice-known4 → tie.After-field3
+from-slice-known4 c = c .before .before
+
 shared-slice-read-wide : tie.Need-shared-slice-read-wide
 shared-slice-read-wide c = search needs
 
@@ -46,10 +68,18 @@ same-length c = search needs
 returns : tie.Need-returns
 unfolding how
 returns c =
-    Laws.wrote-three (omega (arith, c .before .before .before .before .before .before .before .before .before .before .before .before .before .before .before .before .before .before .before .before .pre))
-    (Laws.wrote-same (ap field (c .before .before .before .before .before .before .before .before .before .before .before .before .before .before .before .before .wide .ensures)) (c .before .before .before .before .before .before .before .before .before .before .before .before .before .before .field .ensures))
-    (Laws.wrote-same (ap field (c .before .before .before .before .before .before .before .before .before .before .wide2 .ensures)) (c .before .before .before .before .before .before .before .before .field2 .ensures))
-    (Laws.wrote-same (ap field (c .before .before .before .before .wider .ensures ∙ c .before .before .before .before .before .word16 .ensures)) (c .before .before .field3 .ensures))
+    let at-field3 = from-slice-known4 c in
+    let at-wider = from-field3 at-field3 in
+    let at-word16 = at-wider .before in
+    let at-field2 = from-word16 at-word16 in
+    let at-wide2 = from-field2 at-field2 in
+    let at-field = from-wide2 at-wide2 in
+    let at-wide = from-field at-field in
+    let s = from-wide at-wide in
+    Laws.wrote-three (omega (arith, s .pre))
+    (Laws.wrote-same (ap field (at-wide .wide .ensures)) (at-field .field .ensures))
+    (Laws.wrote-same (ap field (at-wide2 .wide2 .ensures)) (at-field2 .field2 .ensures))
+    (Laws.wrote-same (ap field (at-wider .wider .ensures ∙ at-word16 .word16 .ensures)) (at-field3 .field3 .ensures))
 
 pub how-spec : {M : Type 1} → statement M
 how-spec =

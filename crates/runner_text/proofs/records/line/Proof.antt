@@ -13,6 +13,25 @@ use Rattle.runner_text.proofs.records.message.Reads as message-reads
 use Rattle.runner_text.proofs.records.what.Reads as what-reads
 use Rattle.runner_text.proofs.records.who.Reads as who-reads
 
+-- the points on the way: from each the one before it that an answer names
+abbrev from-who : tie.After-who → tie.Start
+from-who c = c .before .before .before .before .before
+
+abbrev from-what : tie.After-what → tie.After-who
+from-what c = c .before .before .before .before
+
+abbrev from-how : tie.After-how → tie.After-what
+from-how c = c .before .before .before .before
+
+abbrev from-message : tie.After-message → tie.After-how
+from-message c = c .before .before .before .before
+
+abbrev from-letter : tie.After-letter → tie.After-message
+from-letter c = c .before .before .before .before
+
+abbrev from-slice-known6 : tie.After-slice-known6 → tie.After-letter
+from-slice-known6 c = c .before .before
+
 who-requires : tie.Need-who-requires
 who-requires c κs = search needs
 
@@ -34,8 +53,14 @@ same-length c = search needs
 returns : tie.Need-returns
 unfolding line
 returns c =
-    Laws.wrote-five (omega (arith, c .before .before .before .before .before .before .before .before .before .before .before .before .before .before .before .before .before .before .before .before .before .before .before .pre)) (c .before .before .before .before .before .before .before .before .before .before .before .before .before .before .before .before .before .before .who .ensures) (c .before .before .before .before .before .before .before .before .before .before .before .before .before .before .what .ensures) (c .before .before .before .before .before .before .before .before .before .before .how .ensures) (c .before .before .before .before .before .before .message .ensures)
-    (c .before .before .letter .ensures)
+    let at-letter = from-slice-known6 c in
+    let at-message = from-letter at-letter in
+    let at-how = from-message at-message in
+    let at-what = from-how at-how in
+    let at-who = from-what at-what in
+    let s = from-who at-who in
+    Laws.wrote-five (omega (arith, s .pre)) (at-who .who .ensures) (at-what .what .ensures) (at-how .how .ensures) (at-message .message .ensures)
+    (at-letter .letter .ensures)
 
 pub line-spec : {M : Type 1} → statement M
 line-spec =

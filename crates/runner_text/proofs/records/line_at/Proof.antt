@@ -12,6 +12,13 @@ use Rattle.runner_text.proofs.records.line_at.Reads as reads
 use Rattle.runner_text.proofs.records.line_at.Lts as lts
 use Rattle.runner_text.proofs.records.line.Reads as line-reads
 
+-- the points on the way: from each the one before it that an answer names
+abbrev from-line : tie.After-line → tie.Start
+from-line c = c .before .before .before .before .before .before .before
+
+abbrev from-slice-known2 : tie.After-slice-known2 → tie.After-line
+from-slice-known2 c = c .before .before
+
 mul-start : tie.Need-mul-start
 mul-start c = search needs
 
@@ -47,9 +54,11 @@ same-length c = search needs
 
 returns : tie.Need-returns
 returns c =
-    let a = c .before .before .before .before .before .before .before .before .before .args in
+    let at-line = from-slice-known2 c in
+    let s = from-line at-line in
+    let a = s .args in
     let size : 80 * a .i + 80 - 80 * a .i ≡ 80 = omega arith in
-    Laws.wrote-same (ap (λ k. line (a .first + a .i) (take k (drop (80 * a .i) (a .events .now))) (take k (drop (80 * a .i) (a .answers .now)))) size) (c .before .before .line .ensures)
+    Laws.wrote-same (ap (λ k. line (a .first + a .i) (take k (drop (80 * a .i) (a .events .now))) (take k (drop (80 * a .i) (a .answers .now)))) size) (at-line .line .ensures)
 
 pub line-at-spec : {M : Type 1} → statement M
 line-at-spec =

@@ -24,14 +24,31 @@ Inv-loop first events answers out₀ n at₀ i₀ out at i =
 abbrev μ-loop : tie.MeasureT-loop
 μ-loop first events answers out₀ n at₀ i₀ out at i = n - i
 
+-- the points on the way: from each the one before it that an answer names
+abbrev from-slice-known : tie.After-slice-known Inv-loop μ-loop → tie.Start Inv-loop μ-loop
+from-slice-known c = c .before .before .before
+
+abbrev from-at-loop : tie.At-loop Inv-loop μ-loop → tie.Start Inv-loop μ-loop
+from-at-loop c = c .before .before .before .before
+
+abbrev from-line-at : tie.After-line-at Inv-loop μ-loop → tie.In-loop Inv-loop μ-loop
+from-line-at c = c .before .before
+
+abbrev from-slice-known2 : tie.After-slice-known2 Inv-loop μ-loop → tie.After-line-at Inv-loop μ-loop
+from-slice-known2 c = c .before .before
+
 loop-holds : tie.Need-loop-holds Inv-loop μ-loop
-loop-holds c = (refl, omega arith, refl, Laws.wrote-none (c .before .before .before .args .out .now) 0)
+loop-holds c =
+    let s = from-slice-known c in
+    (refl, omega arith, refl, Laws.wrote-none (s .args .out .now) 0)
 
 line-at-requires : tie.Need-line-at-requires Inv-loop μ-loop
 line-at-requires c κs =
-    let s = c .before .before .before .before .before .before in
-    let l = c .before .before .loop in
-    let below = c .before .loop-test .taken in
+    let at-in-loop = c .before in
+    let at-at-loop = at-in-loop .before in
+    let s = from-at-loop at-at-loop in
+    let l = at-at-loop .loop in
+    let below = at-in-loop .loop-test .taken in
     (omega (arith, l .inv .0, below), omega (arith, l .inv .0, below, s .pre .0), omega (arith, l .inv .0, l .inv .2, l .inv .3 .within, below, s .pre .1), omega (arith, l .inv .0, below, s .pre .2))
 
 add-i : tie.Need-add-i Inv-loop μ-loop
@@ -42,11 +59,14 @@ loop-less c = search needs
 
 loop-again : tie.Need-loop-again Inv-loop μ-loop
 loop-again c =
-    let s = c .before .before .before .before .before .before .before .before .before in
+    let at-line-at = from-slice-known2 c in
+    let at-in-loop = from-line-at at-line-at in
+    let at-at-loop = at-in-loop .before in
+    let s = from-at-loop at-at-loop in
     let a = s .args in
-    let l = c .before .before .before .before .before .loop in
-    let below = c .before .before .before .before .loop-test .taken in
-    let w = c .before .before .line-at .ensures in (
+    let l = at-at-loop .loop in
+    let below = at-in-loop .loop-test .taken in
+    let w = at-line-at .line-at .ensures in (
       l .inv .0,
       omega (arith, below),
       w .kept ∙ l .inv .2,
@@ -58,9 +78,10 @@ same-length c = c .before .loop .inv .2
 
 returns : tie.Need-returns Inv-loop μ-loop
 returns c =
-    let s = c .before .before .before .before .before in
+    let at-at-loop = c .before in
+    let s = from-at-loop at-at-loop in
     let a = s .args in
-    let l = c .before .loop in
+    let l = at-at-loop .loop in
     let all : l .i ≡ length (a .events .now) / 80 = omega (arith, l .inv .0, l .inv .1, c .loop-test .left) in
     Laws.wrote-as (omega (arith, all)) (ap (lines (a .first) (a .events .now) (a .answers .now)) all) (l .inv .3)
 

@@ -14,6 +14,22 @@ use Rattle.runner_text.proofs.digits.hex.Reads as hex-reads
 use Rattle.runner_text.proofs.digits.letter.Reads as letter-reads
 use Rattle.runner_text.proofs.records.shows_message.Reads as shows-message-reads
 
+-- the points on the way: from each the one before it that an answer names
+abbrev from-shows-message : tie.After-shows-message → tie.Start
+from-shows-message c = c .before .before .before .before
+
+abbrev from-hex : tie.After-hex → tie.After-read
+from-hex c = c .before .before
+
+abbrev from-slice-known2 : tie.After-slice-known2 → tie.After-hex
+from-slice-known2 c = c .before .before
+
+abbrev from-letter : tie.After-letter → tie.Else1
+from-letter c = c .before .before
+
+abbrev from-slice-known3 : tie.After-slice-known3 → tie.After-letter
+from-slice-known3 c = c .before .before
+
 shows-message-requires : tie.Need-shows-message-requires
 shows-message-requires c κs = search needs
 
@@ -21,17 +37,24 @@ read-requires : tie.Need-read-requires
 read-requires c κs = search needs
 
 hex-requires : tie.Need-hex-requires
-hex-requires c κs = omega (arith, c .before .before .before .before .before .before .before .pre .2, ap length (c .before .read .ensures), Laws.handed-short (c .before .before .before .before .before .before .before .args .answer .now) 0)
+hex-requires c κs =
+    let at-read = c .before in
+    let s = from-shows-message (at-read .before .before) in
+    omega (arith, s .pre .2, ap length (at-read .read .ensures), Laws.handed-short (s .args .answer .now) 0)
 
 same-length : tie.Need-same-length
 same-length c = search needs
 
 returns : tie.Need-returns
 returns c =
-    let s = c .before .before .before .before .before .before .before .before .before .before in
-    Laws.wrote-as (omega (arith, ap length (c .before .before .before .before .read .ensures), Laws.handed-short (s .args .answer .now) 0))
-    (ap hex (c .before .before .before .before .read .ensures) ∙ sym (Laws.message-shown (s .args .event .now) (s .args .answer .now) (sym (c .before .before .before .before .before .before .shows-message .ensures) ∙ c .before .before .before .before .before .if1 .taken)))
-    (c .before .before .hex .ensures)
+    let at-hex = from-slice-known2 c in
+    let at-read = from-hex at-hex in
+    let at-then1 = at-read .before in
+    let at-shows-message = at-then1 .before in
+    let s = from-shows-message at-shows-message in
+    Laws.wrote-as (omega (arith, ap length (at-read .read .ensures), Laws.handed-short (s .args .answer .now) 0))
+    (ap hex (at-read .read .ensures) ∙ sym (Laws.message-shown (s .args .event .now) (s .args .answer .now) (sym (at-shows-message .shows-message .ensures) ∙ at-then1 .if1 .taken)))
+    (at-hex .hex .ensures)
 
 letter-requires : tie.Need-letter-requires
 letter-requires c κs = search needs
@@ -41,8 +64,11 @@ same-length-2 c = search needs
 
 returns-2 : tie.Need-returns-2
 returns-2 c =
-    let s = c .before .before .before .before .before .before .before .before .before in
-    Laws.wrote-as (omega arith) (sym (Laws.message-not (s .args .event .now) (s .args .answer .now) (sym (c .before .before .before .before .before .shows-message .ensures) ∙ c .before .before .before .before .if1 .left))) (c .before .before .letter .ensures)
+    let at-letter = from-slice-known3 c in
+    let at-else1 = from-letter at-letter in
+    let at-shows-message = at-else1 .before in
+    let s = from-shows-message at-shows-message in
+    Laws.wrote-as (omega arith) (sym (Laws.message-not (s .args .event .now) (s .args .answer .now) (sym (at-shows-message .shows-message .ensures) ∙ at-else1 .if1 .left))) (at-letter .letter .ensures)
 
 pub message-spec : {M : Type 1} → statement M
 message-spec =

@@ -13,6 +13,28 @@ use Rattle.runner_text.proofs.records.wider.Reads as wider-reads
 use Rattle.tables.proofs.word16.Reads as word16-reads
 use Rattle.tables.proofs.word32.Reads as word32-reads
 
+-- the points on the way: from each the one before it that an answer names
+abbrev from-word16 : tie.After-word16 → tie.Start
+from-word16 c = c .before .before .before
+
+abbrev from-field : tie.After-field → tie.After-wider
+from-field c = c .before .before
+
+abbrev from-word32 : tie.After-word32 → tie.After-field
+from-word32 c = c .before .before .before
+
+abbrev from-field2 : tie.After-field2 → tie.After-wider2
+from-field2 c = c .before .before
+
+abbrev from-word322 : tie.After-word322 → tie.After-field2
+from-word322 c = c .before .before .before
+
+abbrev from-field3 : tie.After-field3 → tie.After-wider3
+from-field3 c = c .before .before
+
+abbrev from-slice-known4 : tie.After-slice-known4 → tie.After-field3
+from-slice-known4 c = c .before .before
+
 word16-requires : tie.Need-word16-requires
 word16-requires c κs = search needs
 
@@ -46,10 +68,20 @@ same-length c = search needs
 returns : tie.Need-returns
 unfolding what
 returns c =
-    Laws.wrote-three (omega (arith, c .before .before .before .before .before .before .before .before .before .before .before .before .before .before .before .before .before .before .before .before .pre))
-    (Laws.wrote-same (ap field (c .before .before .before .before .before .before .before .before .before .before .before .before .before .before .before .before .wider .ensures ∙ c .before .before .before .before .before .before .before .before .before .before .before .before .before .before .before .before .before .word16 .ensures)) (c .before .before .before .before .before .before .before .before .before .before .before .before .before .before .field .ensures))
-    (Laws.wrote-same (ap field (c .before .before .before .before .before .before .before .before .before .before .wider2 .ensures ∙ c .before .before .before .before .before .before .before .before .before .before .before .word32 .ensures)) (c .before .before .before .before .before .before .before .before .field2 .ensures))
-    (Laws.wrote-same (ap field (c .before .before .before .before .wider3 .ensures ∙ c .before .before .before .before .before .word322 .ensures)) (c .before .before .field3 .ensures))
+    let at-field3 = from-slice-known4 c in
+    let at-wider3 = from-field3 at-field3 in
+    let at-word322 = at-wider3 .before in
+    let at-field2 = from-word322 at-word322 in
+    let at-wider2 = from-field2 at-field2 in
+    let at-word32 = at-wider2 .before in
+    let at-field = from-word32 at-word32 in
+    let at-wider = from-field at-field in
+    let at-word16 = at-wider .before in
+    let s = from-word16 at-word16 in
+    Laws.wrote-three (omega (arith, s .pre))
+    (Laws.wrote-same (ap field (at-wider .wider .ensures ∙ at-word16 .word16 .ensures)) (at-field .field .ensures))
+    (Laws.wrote-same (ap field (at-wider2 .wider2 .ensures ∙ at-word32 .word32 .ensures)) (at-field2 .field2 .ensures))
+    (Laws.wrote-same (ap field (at-wider3 .wider3 .ensures ∙ at-word322 .word322 .ensures)) (at-field3 .field3 .ensures))
 
 pub what-spec : {M : Type 1} → statement M
 what-spec =

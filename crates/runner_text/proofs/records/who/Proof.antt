@@ -11,6 +11,25 @@ use Rattle.runner_text.proofs.records.who.Lts as lts
 use Rattle.runner_text.proofs.digits.field.Reads as field-reads
 use Rattle.runner_text.proofs.records.wide.Reads as wide-reads
 
+-- the points on the way: from each the one before it that an answer names
+abbrev from-field : tie.After-field → tie.Start
+from-field c = c .before .before .before .before
+
+abbrev from-wide : tie.After-wide → tie.After-field
+from-wide c = c .before .before .before .before
+
+abbrev from-field2 : tie.After-field2 → tie.After-wide
+from-field2 c = c .before .before
+
+abbrev from-wide2 : tie.After-wide2 → tie.After-field2
+from-wide2 c = c .before .before .before .before
+
+abbrev from-field3 : tie.After-field3 → tie.After-wide2
+from-field3 c = c .before .before
+
+abbrev from-slice-known4 : tie.After-slice-known4 → tie.After-field3
+from-slice-known4 c = c .before .before
+
 field-requires : tie.Need-field-requires
 field-requires c κs = search needs
 
@@ -38,9 +57,15 @@ same-length c = search needs
 returns : tie.Need-returns
 unfolding who
 returns c =
-    Laws.wrote-three (omega (arith, c .before .before .before .before .before .before .before .before .before .before .before .before .before .before .before .before .before .before .pre)) (c .before .before .before .before .before .before .before .before .before .before .before .before .before .before .field .ensures)
-    (Laws.wrote-same (ap field (c .before .before .before .before .before .before .before .before .before .before .wide .ensures)) (c .before .before .before .before .before .before .before .before .field2 .ensures))
-    (Laws.wrote-same (ap field (c .before .before .before .before .wide2 .ensures)) (c .before .before .field3 .ensures))
+    let at-field3 = from-slice-known4 c in
+    let at-wide2 = from-field3 at-field3 in
+    let at-field2 = from-wide2 at-wide2 in
+    let at-wide = from-field2 at-field2 in
+    let at-field = from-wide at-wide in
+    let s = from-field at-field in
+    Laws.wrote-three (omega (arith, s .pre)) (at-field .field .ensures)
+    (Laws.wrote-same (ap field (at-wide .wide .ensures)) (at-field2 .field2 .ensures))
+    (Laws.wrote-same (ap field (at-wide2 .wide2 .ensures)) (at-field3 .field3 .ensures))
 
 pub who-spec : {M : Type 1} → statement M
 who-spec =

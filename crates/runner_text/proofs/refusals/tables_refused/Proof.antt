@@ -11,6 +11,25 @@ use Rattle.runner_text.proofs.digits.decimal.Reads as decimal-reads
 use Rattle.runner_text.proofs.digits.letter.Reads as letter-reads
 use Rattle.runner_text.proofs.refusals.copy.Reads as copy-reads
 
+-- the points on the way: from each the one before it that an answer names
+abbrev from-copy : tie.After-copy → tie.Start
+from-copy c = c .before .before .before .before
+
+abbrev from-decimal : tie.After-decimal → tie.After-copy
+from-decimal c = c .before .before .before .before
+
+abbrev from-copy2 : tie.After-copy2 → tie.After-decimal
+from-copy2 c = c .before .before .before .before .before
+
+abbrev from-decimal2 : tie.After-decimal2 → tie.After-copy2
+from-decimal2 c = c .before .before .before .before
+
+abbrev from-letter : tie.After-letter → tie.After-decimal2
+from-letter c = c .before .before .before .before
+
+abbrev from-slice-known6 : tie.After-slice-known6 → tie.After-letter
+from-slice-known6 c = c .before .before
+
 slice-aggregate-copy : tie.Need-slice-aggregate-copy
 slice-aggregate-copy c = search needs
 
@@ -38,8 +57,14 @@ same-length c = search needs
 returns : tie.Need-returns
 unfolding tablesRefused
 returns c =
-    Laws.wrote-five (omega (arith, c .before .before .before .before .before .before .before .before .before .before .before .before .before .before .before .before .before .before .before .before .before .before .before .pre)) (c .before .before .before .before .before .before .before .before .before .before .before .before .before .before .before .before .before .before .before .copy .ensures) (c .before .before .before .before .before .before .before .before .before .before .before .before .before .before .before .decimal .ensures) (c .before .before .before .before .before .before .before .before .before .before .copy2 .ensures) (c .before .before .before .before .before .before .decimal2 .ensures)
-    (c .before .before .letter .ensures)
+    let at-letter = from-slice-known6 c in
+    let at-decimal2 = from-letter at-letter in
+    let at-copy2 = from-decimal2 at-decimal2 in
+    let at-decimal = from-copy2 at-copy2 in
+    let at-copy = from-decimal at-decimal in
+    let s = from-copy at-copy in
+    Laws.wrote-five (omega (arith, s .pre)) (at-copy .copy .ensures) (at-decimal .decimal .ensures) (at-copy2 .copy2 .ensures) (at-decimal2 .decimal2 .ensures)
+    (at-letter .letter .ensures)
 
 pub tables-refused-spec : {M : Type 1} → statement M
 tables-refused-spec =
