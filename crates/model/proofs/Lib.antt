@@ -28,3 +28,4 @@ pub mod MoveConditions
 pub mod Unwinding
 pub mod Conditions
 pub mod NonInterference
+pub mod Nobody
