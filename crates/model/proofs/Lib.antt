@@ -1,3 +1,5 @@
+pub mod AnotherListing
+pub mod AcceptOrRefuse
 pub mod Tests
 pub mod Bounded
 pub mod Order
@@ -12,6 +14,7 @@ pub mod Reached
 pub mod Computing
 pub mod Searches
 pub mod Laid
+pub mod Stretches
 pub mod Edges
 pub mod Branches
 pub mod Replies
