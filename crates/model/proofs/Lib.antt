@@ -1,3 +1,5 @@
+pub mod AllOrNothing
+pub mod AnswersRead
 pub mod AnotherListing
 pub mod AcceptOrRefuse
 pub mod Tests
