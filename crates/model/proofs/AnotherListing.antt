@@ -61,7 +61,7 @@ clock = event 13 0 0 0 0 []
 
 -- handed in: partition 0 starts; partition 1 is in NORMAL, its destinations created, its last read valid, and a message waiting
 abbrev handedIn : State
-handedIn = at 0 0xFFFFFEFA 1 3 (fresh ∷ made 0xFFFFFE00 1 [] ∷ fresh ∷ made 0 0 ((9 ∷ []) ∷ []) ∷ fresh ∷ made 5 1 [] ∷ [])
+handedIn = at 0 0xFFFFFEFA 1 3 (fresh ∷ made 0xFFFFFE00 1 [] ∷ fresh ∷ made 0 0 ((9 ∷ []) ∷ []) ∷ fresh ∷ made 5 0 [] ∷ [])
 
 -- Create and get id, by partition 0 in COLD_START
 abbrev createRows : List Row
@@ -83,7 +83,7 @@ createRows =
     ∷ []
 
 abbrev created : State
-created = at 0 0xFFFFFEFA 1 3 (made 0 0 [] ∷ made 0xFFFFFE00 1 [] ∷ made 0 0 [] ∷ made 0 0 ((9 ∷ []) ∷ []) ∷ fresh ∷ made 5 1 [] ∷ [])
+created = at 0 0xFFFFFEFA 1 3 (made 0 0 [] ∷ made 0xFFFFFE00 1 [] ∷ made 0 0 [] ∷ made 0 0 ((9 ∷ []) ∷ []) ∷ fresh ∷ made 5 0 [] ∷ [])
 
 -- Write, send and status, by partition 0: the second write replaces, and the fourth send is lost
 abbrev putRows : List Row
@@ -114,7 +114,7 @@ written = 67 ∷ 68 ∷ 69 ∷ []
 
 abbrev put : ℕ → ℕ → ℕ → State
 put window time mode₀ =
-    at window time mode₀ 3 (made 0 0 (written ∷ []) ∷ made 0xFFFFFE00 1 [] ∷ made 0 0 sent ∷ made 0 0 ((9 ∷ []) ∷ []) ∷ fresh ∷ made 5 1 [] ∷ [])
+    at window time mode₀ 3 (made 0 0 (written ∷ []) ∷ made 0xFFFFFE00 1 [] ∷ made 0 0 sent ∷ made 0 0 ((9 ∷ []) ∷ []) ∷ fresh ∷ made 5 0 [] ∷ [])
 
 -- Nobody's events in a partition's window, 17 before 18; then modes: NORMAL leaves the ports
 abbrev startRows : List Row
@@ -165,7 +165,7 @@ moveRows =
 abbrev moved : List Message → ℕ → State
 moved queue validity =
     at 1 266 3 3
-    (made 0 0 [] ∷ made 3 validity (written ∷ []) ∷ made 0 0 [] ∷ made 0 0 queue ∷ fresh ∷ made 3 1 (written ∷ []) ∷ [])
+    (made 0 0 [] ∷ made 3 validity (written ∷ []) ∷ made 0 0 [] ∷ made 0 0 queue ∷ fresh ∷ made 3 0 (written ∷ []) ∷ [])
 
 abbrev arrived : List Message
 arrived = (9 ∷ []) ∷ (71 ∷ []) ∷ (72 ∷ 73 ∷ []) ∷ []
@@ -185,7 +185,7 @@ takeRows =
 
 -- Modes 0, 1 and 2 unmake the caller's ports, and no others
 abbrev unmade : ℕ → State
-unmade mode = at 1 266 3 mode (made 0 0 [] ∷ fresh ∷ made 0 0 [] ∷ fresh ∷ fresh ∷ made 3 1 (written ∷ []) ∷ [])
+unmade mode = at 1 266 3 mode (made 0 0 [] ∷ fresh ∷ made 0 0 [] ∷ fresh ∷ fresh ∷ made 3 0 (written ∷ []) ∷ [])
 
 abbrev setting : ℕ → Row
 setting mode = event 12 mode 0 0 0 [] gets code 0 1
