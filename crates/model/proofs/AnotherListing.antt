@@ -59,6 +59,10 @@ code c doer = c ∷ doer ∷ blanks 78
 abbrev clock : Event
 clock = event 13 0 0 0 0 []
 
+-- an event of which a code looks at the first four bytes at most. Fields a code doesn't use are not looked at: in some rows they are full
+abbrev brief : ℕ → ℕ → ℕ → Event
+brief c choice id = c ∷ choice ∷ id ∷ 0 ∷ replicate 76 255
+
 -- handed in: partition 0 starts; partition 1 is in NORMAL, its destinations created, its last read valid, and a message waiting
 abbrev handedIn : State
 handedIn = at 0 0xFFFFFEFA 1 3 (fresh ∷ made 0xFFFFFE00 1 [] ∷ fresh ∷ made 0 0 ((9 ∷ []) ∷ []) ∷ fresh ∷ made 5 0 [] ∷ [])
@@ -76,8 +80,9 @@ createRows =
     ∷ event 1 0 0 0 4 S gets answerRow 0 0 1 0 0 0 0 0 []
     ∷ event 1 1 0 0 4 S gets code 1 0  -- already created, whatever is asked
     ∷ event 6 0 0 2 4 Q gets code 4 0  -- another depth
-    ∷ event 6 0 0 3 4 Q gets answerRow 0 0 3 0 0 0 0 0 []
-    ∷ event 4 0 0 0 0 S gets answerRow 0 0 1 0 0 0 0 0 []
+    ∷ event 6 0 255 3 4 Q gets answerRow 0 0 3 0 0 0 0 0 []
+    ∷ event 4 255 255 255 255 (83 ∷ blanks 29 ++ 255 ∷ []) gets answerRow 0 0 1 0 0 0 0 0 []
+    ∷ event 4 0 0 0 0 (83 ∷ blanks 28 ++ 255 ∷ []) gets code 4 0  -- another name, by its thirtieth byte
     ∷ event 9 0 0 0 0 Q gets answerRow 0 0 3 0 0 0 0 0 []
     ∷ event 9 0 0 0 0 S gets code 4 0
     ∷ []
@@ -89,7 +94,7 @@ created = at 0 0xFFFFFEFA 1 3 (made 0 0 [] ∷ made 0xFFFFFE00 1 [] ∷ made 0 0
 abbrev putRows : List Row
 putRows =
     event 2 0 1 0 2 (65 ∷ 66 ∷ []) gets code 0 0
-    ∷ event 2 0 1 0 3 (67 ∷ 68 ∷ 69 ∷ []) gets code 0 0
+    ∷ event 2 255 1 255 3 (67 ∷ 68 ∷ 69 ∷ 255 ∷ []) gets code 0 0
     ∷ (2 ∷ 0 ∷ 1 ∷ 0 ∷ 0 ∷ 0 ∷ 0 ∷ 0 ∷ 2 ∷ 0 ∷ 0 ∷ 1 ∷ blanks 68) gets code 4 0  -- length 16,777,218
     ∷ (2 ∷ 0 ∷ 1 ∷ 1 ∷ 0 ∷ 0 ∷ 0 ∷ 0 ∷ 2 ∷ 0 ∷ 0 ∷ 0 ∷ blanks 68) gets code 3 0  -- id 257
     ∷ event 2 0 0 0 1 [] gets code 3 0  -- id 0
@@ -101,7 +106,7 @@ putRows =
     ∷ event 7 0 3 0 2 (72 ∷ 73 ∷ []) gets code 0 0
     ∷ event 7 0 3 0 1 (74 ∷ []) gets code 0 0
     ∷ event 7 0 3 0 1 (75 ∷ []) gets code 0 0
-    ∷ event 10 0 3 0 0 [] gets answerRow 0 0 0 0 4 0 0 3 []  -- a source's count is 0
+    ∷ brief 10 255 3 gets answerRow 0 0 0 0 4 0 0 3 []  -- a source's count is 0
     ∷ event 8 0 3 0 0 [] gets code 5 0  -- receive and clear at a source
     ∷ event 11 0 3 0 0 [] gets code 5 0
     ∷ []
@@ -125,7 +130,7 @@ startRows =
     ∷ event 15 0 0 0 0 [] gets code 19 255
     ∷ event 12 4 0 0 0 [] gets code 3 0
     ∷ event 12 2 0 0 0 [] gets code 5 0
-    ∷ event 12 3 0 0 0 [] gets code 0 0
+    ∷ brief 12 3 255 gets code 0 0
     ∷ event 12 3 0 0 0 [] gets code 1 0
     ∷ clock gets (0 ∷ 32 ∷ 0 ∷ 0 ∷ 252 ∷ 255 ∷ 255 ∷ 255 ∷ blanks 72)
     ∷ []
@@ -154,10 +159,10 @@ moveRows =
     ∷ event 14 0 0 0 0 [] gets code 0 64
     ∷ event 14 0 0 0 0 [] gets code 1 64
     ∷ event 14 0 1 0 0 [] gets code 0 65
-    ∷ event 14 0 1 0 0 [] gets code 0 65
+    ∷ brief 14 255 1 gets code 0 65
     ∷ event 14 0 1 0 0 [] gets code 0 65
     ∷ event 14 0 1 0 0 [] gets code 1 65
-    ∷ clock gets answerRow 32 0 0 8 0 0 0 0 []
+    ∷ brief 13 255 255 gets answerRow 32 0 0 8 0 0 0 0 []
     ∷ clock gets answerRow 32 0 0 266 0 0 0 0 []
     ∷ []
 
@@ -178,17 +183,20 @@ takeRows =
     ∷ (5 ∷ 0 ∷ 2 ∷ blanks 77) gets (0 ∷ 1 ∷ 0 ∷ 0 ∷ 6 ∷ 1 ∷ 0 ∷ 0 ∷ 5 ∷ 0 ∷ 0 ∷ 0 ∷ 0 ∷ 1 ∷ 0 ∷ 0 ∷ blanks 64)
     ∷ event 8 0 4 0 0 [] gets answerRow 1 0 0 0 1 0 0 0 (9 ∷ [])
     ∷ (10 ∷ 0 ∷ 4 ∷ blanks 77) gets (0 ∷ 1 ∷ 0 ∷ 0 ∷ 2 ∷ 0 ∷ 0 ∷ 0 ∷ 4 ∷ 0 ∷ 0 ∷ 0 ∷ 0 ∷ 1 ∷ 3 ∷ 0 ∷ blanks 64)
-    ∷ event 8 0 4 0 0 [] gets answerRow 1 0 0 0 1 0 0 0 (71 ∷ [])
+    ∷ brief 8 255 4 gets answerRow 1 0 0 0 1 0 0 0 (71 ∷ [])
     ∷ event 11 0 4 0 0 [] gets code 0 1
     ∷ event 8 0 4 0 0 [] gets code 2 1
     ∷ []
 
--- Modes 0, 1 and 2 unmake the caller's ports, and no others
+-- Modes 0, 1 and 2 unmake the caller's ports, and no others; a start mode may be set again
 abbrev unmade : ℕ → State
 unmade mode = at 1 266 3 mode (made 0 0 [] ∷ fresh ∷ made 0 0 [] ∷ fresh ∷ fresh ∷ made 3 0 (written ∷ []) ∷ [])
 
 abbrev setting : ℕ → Row
 setting mode = event 12 mode 0 0 0 [] gets code 0 1
+
+abbrev coldRows : List Row
+coldRows = setting 1 ∷ event 12 2 0 0 0 [] gets code 5 1 ∷ []
 
 -- A partition in IDLE gets 15 for every call and is still the doer; nobody's events are still nobody's
 abbrev stoppedRows : List Row
@@ -256,13 +264,13 @@ idle-unmakes : Gives tables (sets 0 stoppedRows)
 unfolding stepping
 idle-unmakes = given tables tables-accepted (sets 0 stoppedRows) refl
 
-cold-start-unmakes : Gives tables (sets 1 [])
+cold-start-unmakes : Gives tables (sets 1 coldRows)
 unfolding stepping
-cold-start-unmakes = given tables tables-accepted (sets 1 []) refl
+cold-start-unmakes = given tables tables-accepted (sets 1 coldRows) refl
 
-warm-start-unmakes : Gives tables (sets 2 [])
+warm-start-unmakes : Gives tables (sets 2 (setting 2 ∷ []))
 unfolding stepping
-warm-start-unmakes = given tables tables-accepted (sets 2 []) refl
+warm-start-unmakes = given tables tables-accepted (sets 2 (setting 2 ∷ [])) refl
 
 time-told : Gives tables ticks
 unfolding stepping
@@ -272,6 +280,6 @@ abbrev G : Stretch → Type 0
 G = Gives tables
 
 pub another-listing :
-    G creates × G puts × G starts × G refusals × G moves × G takes × G (sets 0 stoppedRows) × G (sets 1 []) × G (sets 2 []) × G ticks
+    G creates × G puts × G starts × G refusals × G moves × G takes × G (sets 0 stoppedRows) × G (sets 1 coldRows) × G (sets 2 (setting 2 ∷ [])) × G ticks
 another-listing =
     (creates-answered, puts-answered, starts-answered, refusals-answered, moves-answered, takes-answered, idle-unmakes, cold-start-unmakes, warm-start-unmakes, time-told)

@@ -1,7 +1,9 @@
-pub mod AllOrNothing
-pub mod AnswersRead
-pub mod AnotherListing
+-- The check goes through these files by name, each after those that it cites, and first through those that have a pub name. So the rows by hand, which cite
+-- definitions alone, are computed before any law: a definition that is wrong, with proofs that fit it, is refused there. They are the first four.
 pub mod AcceptOrRefuse
+pub mod AllOrNothing
+pub mod AnotherListing
+pub mod AnswersRead
 pub mod Tests
 pub mod Bounded
 pub mod Order
