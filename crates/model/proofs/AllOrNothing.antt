@@ -79,13 +79,13 @@ rows =
     ∷ runs step clock (bytes 81) later (ticked ++ bytes 1)
     ∷ []
 
-abbrev got : List Row → List Ran
-got [] = []
-got (r ∷ rs) = r .got ∷ got rs
+abbrev gotten : List Row → List Ran
+gotten [] = []
+gotten (r ∷ rs) = r .got ∷ gotten rs
 
-abbrev given : List Row → List Ran
-given [] = []
-given (r ∷ rs) = r .given ∷ given rs
+abbrev written : List Row → List Ran
+written [] = []
+written (r ∷ rs) = r .given ∷ written rs
 
 -- test 29: window; modes; created mark; last validity; stored count, up to the depth or 1 for sampling; stored length, 1 to the largest; a message in an
 -- uncreated port. At time and arrival it does not look
@@ -134,7 +134,7 @@ abbrev right : List Judged → List Bool
 right [] = []
 right (x ∷ xs) = x .fine ∷ right xs
 
-lists-refused : got rows ≡ given rows
+lists-refused : gotten rows ≡ written rows
 unfolding computing
 lists-refused = refl
 
@@ -142,5 +142,5 @@ states-judged : judged states ≡ right states
 unfolding stepping
 states-judged = refl
 
-pub all-or-nothing : (got rows ≡ given rows) × (judged states ≡ right states)
+pub all-or-nothing : (gotten rows ≡ written rows) × (judged states ≡ right states)
 all-or-nothing = (lists-refused, states-judged)
