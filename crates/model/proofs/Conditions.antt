@@ -28,7 +28,7 @@ abbrev pub machine : Tables → Machine State Event (List ℕ) Holding
 machine t = record { after = after t; doer = doer t; answer = answer t; hands = hands t; holds = holds t; schedulers = schedulers }
 
 -- a turn names a partition or a channel that there is
-abbrev Fitting : Tables → Turn → Type 0
+abbrev pub Fitting : Tables → Turn → Type 0
 Fitting t (noTurn code) = Unit {0}
 Fitting t clockTurn = Unit {0}
 Fitting t (callTurn p f) = p < 16
@@ -47,7 +47,7 @@ turn-in-fits t owner kind (move c) =
     by-test (Fitting t) (eqb owner mover) (λ h. by-test (Fitting t) (ltb c (channels t)) (λ g. ltb-true _ _ g) (λ g. tt)) (λ h. tt)
 
 module _ (t : Tables) (laws : Accepted t) where
-  turn-fits : (s : State) (e : Event) → Shaped t s → Fitting t (turn t s e)
+  pub turn-fits : (s : State) (e : Event) → Shaped t s → Fitting t (turn t s e)
   unfolding turn
   turn-fits s e shape = turn-in-fits t _ (laws .window (s .clock .window) (shape .inWindow)) (decode e)
 

@@ -63,8 +63,12 @@ sample arrival validity = record { created = 1; arrival = arrival; validity = va
 abbrev message : Message
 message = 67 ∷ []
 
-abbrev many : ℕ → List Message
-many n = replicate n message
+-- seven messages, no two alike and none the one sent, and the same with one more at the end
+abbrev seven : List Message
+seven = (1 ∷ []) ∷ (2 ∷ 1 ∷ []) ∷ (3 ∷ []) ∷ (4 ∷ 1 ∷ []) ∷ (5 ∷ []) ∷ (6 ∷ 1 ∷ []) ∷ (7 ∷ []) ∷ []
+
+abbrev sevenAnd : Message → List Message
+sevenAnd m = seven ++ m ∷ []
 
 -- the read of the sample of id 2, and what it answers
 abbrev read : Event
@@ -81,7 +85,7 @@ transmit = event 14 0 0 0 0 []
 
 -- the sample is in the source, and the destination is created
 abbrev waiting : State
-waiting = state 2 7 (holding (many 1)) (holding [])
+waiting = state 2 7 (holding (message ∷ [])) (holding [])
 
 abbrev pub edges : List Edge
 edges =
@@ -92,10 +96,10 @@ edges =
     -- P3 time 5, arrival 4,294,967,290: age 11; valid at refresh 11, not at 10
     ∷ edge (samples 11) (state 1 5 fresh (sample 4_294_967_290 0)) read (readAs 1) (state 1 5 fresh (sample 4_294_967_290 1))
     ∷ edge (samples 10) (state 1 5 fresh (sample 4_294_967_290 1)) read (readAs 0) (state 1 5 fresh (sample 4_294_967_290 0))
-    -- P4 send at depth 8 holding 7: stored
-    ∷ edge queues (state 0 0 (holding (many 7)) fresh) (send 1 1) (answerRow 0 0 0 0 0 0 0 0 []) (state 0 0 (holding (many 8)) fresh)
-    -- P5 holding 8: lost, answer 0
-    ∷ edge queues (state 0 0 (holding (many 8)) fresh) (send 1 1) (answerRow 0 0 0 0 0 0 0 0 []) (state 0 0 (holding (many 8)) fresh)
+    -- P4 send at depth 8 holding 7: stored, as the newest
+    ∷ edge queues (state 0 0 (holding seven) fresh) (send 1 1) (answerRow 0 0 0 0 0 0 0 0 []) (state 0 0 (holding (sevenAnd message)) fresh)
+    -- P5 holding 8: lost, answer 0; the eight stay as they are
+    ∷ edge queues (state 0 0 (holding (sevenAnd (8 ∷ 1 ∷ []))) fresh) (send 1 1) (answerRow 0 0 0 0 0 0 0 0 []) (state 0 0 (holding (sevenAnd (8 ∷ 1 ∷ []))) fresh)
     -- P6 length 0: 3
     ∷ edge queues (state 0 0 (holding []) fresh) (send 1 0) (answerRow 0 3 0 0 0 0 0 0 []) (state 0 0 (holding []) fresh)
     -- P7 length 5, largest 4: 4
@@ -103,10 +107,10 @@ edges =
     -- P8 another's id: 3
     ∷ edge queues (state 0 0 (holding []) (holding [])) (send 2 1) (answerRow 0 3 0 0 0 0 0 0 []) (state 0 0 (holding []) (holding []))
     -- P9 transmit of a stored message to an uncreated port: 0
-    ∷ edge queues (state 2 7 (holding (many 1)) fresh) transmit (answerRow 64 0 0 0 0 0 0 0 []) (state 2 7 (holding []) fresh)
+    ∷ edge queues (state 2 7 (holding (message ∷ [])) fresh) transmit (answerRow 64 0 0 0 0 0 0 0 []) (state 2 7 (holding []) fresh)
     -- P10 a second transmit of one sample: 1
     ∷ edge (samples 20) (after (samples 20) waiting transmit) transmit (answerRow 64 1 0 0 0 0 0 0 [])
-    (state 2 7 (holding []) (record { created = 1; arrival = 7; validity = 0; queue = many 1 }))
+    (state 2 7 (holding []) (record { created = 1; arrival = 7; validity = 0; queue = message ∷ [] }))
     ∷ []
 
 -- each of the four tables is accepted

@@ -1,3 +1,9 @@
+-- The check goes through these files by name, each after those that it cites, and first through those that have a pub name. So the rows by hand, which cite
+-- definitions alone, are computed before any law: a definition that is wrong, with proofs that fit it, is refused there. They are the first four.
+pub mod AcceptOrRefuse
+pub mod AllOrNothing
+pub mod AnotherListing
+pub mod AnswersRead
 pub mod Tests
 pub mod Bounded
 pub mod Order
@@ -12,6 +18,7 @@ pub mod Reached
 pub mod Computing
 pub mod Searches
 pub mod Laid
+pub mod Stretches
 pub mod Edges
 pub mod Branches
 pub mod Replies
@@ -28,3 +35,4 @@ pub mod MoveConditions
 pub mod Unwinding
 pub mod Conditions
 pub mod NonInterference
+pub mod Nobody

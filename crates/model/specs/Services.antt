@@ -40,7 +40,8 @@ isNamed t p mode e k =
 unfoldable pub lookUp : Tables → ℕ → ℕ → Event → ℕ
 lookUp t p mode e = first (isNamed t p mode e) (ports t) 0
 
--- Create: already created, 1; largest message, direction, or refresh or depth unlike the row, 4; partition in NORMAL, 5; else created, answer id
+-- Create: no row of that name, owner and mode, 4 (`create`, below, which asks that first); already created, 1; largest message, direction, or refresh or
+-- depth unlike the row, 4; partition in NORMAL, 5; else created, answer id
 unfoldable pub likeRow : Row → Call → Bool
 likeRow r f =
     eqb (f .size) (r .largest)
@@ -54,7 +55,7 @@ made id mode r f q =
     else if eqb mode normal then refuses invalid-mode
     else serves (toldId id) (record { created = 1; arrival = q .arrival; validity = q .validity; queue = q .queue })
 
--- no row of that name, owner and mode, 4
+-- no row of that name, owner and mode, 4; the rest is asked of the row that there is
 unfoldable pub create : Tables → State → ℕ → Event → Call → Reply
 create t s p e f =
     let k = lookUp t p (need (f .code) .mode) e in
@@ -66,7 +67,8 @@ getId t s p e f =
     let k = lookUp t p (need (f .code) .mode) e in
     if ltb k (ports t) && isCreated (port s k) then done (toldId (suc k)) s else refuse invalid-config
 
--- own port: a created port of the caller, of the service's mode
+-- own port: a created port of the caller, of the service's mode. Codes 2, 3, 5, 7, 8, 10 and 11 begin with "not own port, 3": `useOwn`, below, asks that first,
+-- and what stands between is of an own port
 unfoldable pub own : Tables → State → ℕ → Call → Bool
 own t s p f =
     between 1 (ports t) (f .id)
@@ -78,7 +80,7 @@ own t s p f =
 unfoldable pub stored : Row → List Message → Message → List Message
 stored r queue message = if eqb (r .mode) sampling then message ∷ [] else offer (r .depth) queue message
 
--- 2 and 7: length 0, 3; length above the largest, 4; not a source, 5; else stored
+-- 2 and 7, of an own port: length 0, 3; length above the largest, 4; not a source, 5; else stored
 unfoldable pub put : Row → Event → Call → Port → Served
 put r e f q =
     if eqb (f .size) 0 then refuses invalid-param
@@ -102,7 +104,7 @@ abbrev pub takeOldest : Port → List Message → Served
 takeOldest q [] = refuses not-available
 takeOldest q (m ∷ rest) = serves (toldMessage m 0) (withQueue q rest)
 
--- 3 and 8: not a destination, 5
+-- 3 and 8, of an own port: not a destination, 5
 unfoldable pub get : ℕ → Row → Call → Port → Served
 get time r f q =
     if not (directed (need (f .code)) r) then refuses invalid-mode
@@ -113,14 +115,14 @@ get time r f q =
 abbrev pub countTold : Row → Port → ℕ
 countTold r q = if eqb (r .direction) source then 0 else length (q .queue)
 
--- 5 and 10: the row's numbers, with the last validity (5) or the message count (10)
+-- 5 and 10, of an own port: the row's numbers, with the last validity (5) or the message count (10)
 unfoldable pub status : Row → Port → Told
 status r q =
     if eqb (r .mode) sampling
     then record { id = 0; number = r .refresh; size = r .largest; validity = q .validity; direction = r .direction; depth = 0; message = [] }
     else record { id = 0; number = countTold r q; size = r .largest; validity = 0; direction = r .direction; depth = r .depth; message = [] }
 
--- 11: not a destination, 5; else emptied
+-- 11, of an own port: not a destination, 5; else emptied
 unfoldable pub cleared : Row → Call → Port → Served
 cleared r f q = if not (directed (need (f .code)) r) then refuses invalid-mode else serves nothingTold (withQueue q [])
 
@@ -132,7 +134,7 @@ serve time r e f q =
     else if eqb (f .code) clear-queuing-port then cleared r f q
     else serves (status r q) q
 
--- not own port, 3
+-- not own port, 3; else the service of the code
 unfoldable pub useOwn : Tables → ℕ → State → ℕ → Event → Call → Reply
 useOwn t time s p e f =
     if own t s p f then atPort s (f .id - 1) (serve time (row t (f .id - 1)) e f (port s (f .id - 1)))
@@ -185,13 +187,14 @@ arrived time r m d =
     }
     else d
 
--- the message handed to the n destinations of channel c from number j on; each has its arrival time
+-- the message handed to port k, which has its own arrival time
+abbrev pub handedTo : Tables → (ℕ → ℕ) → Message → ℕ → State → State
+handedTo t timeAt m k s = withPort s k (arrived (timeAt k) (row t k) m (port s k))
+
+-- and to the n destinations of channel c from number j on, one after the other
 abbrev pub delivered : Tables → (ℕ → ℕ) → ℕ → Message → ℕ → ℕ → State → State
 delivered t timeAt c m zero j s = s
-delivered t timeAt c m (suc n) j s =
-    delivered t timeAt c m n (suc j)
-    (withPort s (destinationPort t c j)
-    (arrived (timeAt (destinationPort t c j)) (row t (destinationPort t c j)) m (port s (destinationPort t c j))))
+delivered t timeAt c m (suc n) j s = delivered t timeAt c m n (suc j) (handedTo t timeAt m (destinationPort t c j) s)
 
 -- source empty, 1; else the oldest message leaves the source and goes to each destination
 abbrev pub transmitOldest : Tables → (ℕ → ℕ) → State → ℕ → List Message → Reply

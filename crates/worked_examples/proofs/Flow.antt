@@ -1,13 +1,14 @@
--- A worked pair for demand 3, computed. Partition 0 sends over channel 0 to partition 1, which sends on over channel 1 to partition 2.
+-- A worked pair for demand 3, computed. Partition 0 sends over channel 0 to partition 1, which sends on what it received over channel 1 to partition 2.
 -- Partition 2's view is compared. Partition 3 acts in the second list only, and the second state has its mode, its port and a message of its.
+-- What partition 2 is told depends on partition 0's send: it changes with the message, and where nothing is sent nothing is sent on.
 -- Assumes nothing.
-use Prim.Native.Nat.{ℕ, suc}
+use Prim.Native.Nat.{ℕ}
 use native.Mathlib.Omega.{arith}
 use mathlib.Core.Path.{_≡_, refl, sym, ap, subst, _∙_}
 use mathlib.Core.Bool.{Bool, true, false, false≢true}
 use mathlib.Core.List.{List, [], _∷_, _++_}
 use lib.Dec.{eqb, lit<}
-use lib.ListN.{set, replicate, take, drop}
+use lib.ListN.{length, getD, set, replicate}
 use borrow.Author.Tests.{eqb-true}
 use Rattle.model.proofs.Computing.{computing}
 use Rattle.model.proofs.Tests.{both-left, both-right}
@@ -16,9 +17,10 @@ use Rattle.model.proofs.Laid.{windowRow, portRow, channelRow, event}
 use Rattle.model.specs.Words.{zeros, allIn}
 use Rattle.model.specs.Tables.{Tables}
 use Rattle.model.specs.Load.{accepts}
-use Rattle.model.specs.State.{State, fresh, loaded}
+use Rattle.model.specs.State.{Message, State, fresh, loaded}
 use Rattle.model.specs.Events.{Event}
-use Rattle.model.specs.Answers.{refusal, told, toldId, toldMessage, not-available}
+use Rattle.model.specs.Answers.{refusal, told, toldId, toldMessage, not-available, handed}
+use Rattle.model.specs.Step.{answer}
 use Rattle.model.specs.Run.{Reached, byLoad, byRun, afterAll, joined, run}
 use Rattle.model.specs.Walk.{isMember}
 use Rattle.model.specs.Flow.{Holding, clockHeld, queueHeld, partHeld, nothingHeld, holds, setOf, matteringTo, answersTo}
@@ -48,8 +50,8 @@ clock = event 13 0 0 0 0 []
 abbrev create : ℕ → ℕ → Event
 create direction name = event 6 direction 0 2 4 (name ∷ [])
 
-abbrev send : ℕ → Event
-send id = event 7 0 id 0 2 (72 ∷ 73 ∷ [])
+abbrev send : ℕ → Message → Event
+send id m = event 7 0 id 0 (length m) m
 
 abbrev receive : ℕ → Event
 receive id = event 8 0 id 0 0 []
@@ -57,9 +59,9 @@ receive id = event 8 0 id 0 0 []
 abbrev transmit : ℕ → Event
 transmit channel = event 14 0 channel 0 0 []
 
--- from partition 2's first window on: the ports are created, 0 sends, channel 0 moves, 1 receives and sends on, channel 1 moves, 2 receives twice
-abbrev onwards : List Event
-onwards =
+-- from partition 2's first window on: the ports are created, 0 sends or does not, channel 0 moves
+abbrev opening : List Event → List Event
+opening sends =
     clock
     ∷ create 1 66
     ∷ clock
@@ -67,21 +69,29 @@ onwards =
     ∷ create 0 66
     ∷ clock
     ∷ create 0 65
-    ∷ send 1
-    ∷ clock
-    ∷ transmit 0
-    ∷ clock
-    ∷ receive 2
-    ∷ send 3
-    ∷ clock
-    ∷ transmit 1
-    ∷ clock
-    ∷ receive 4
-    ∷ receive 4
-    ∷ []
+    ∷ sends
+    ++ (clock ∷ transmit 0 ∷ clock ∷ [])
 
-abbrev without : ℕ → List Event → List Event
-without n es = take n es ++ drop (suc n) es
+-- then 1 receives, and sends on or does not; channel 1 moves, 2 receives twice
+abbrev ending : List Event → List Event
+ending sends = receive 2 ∷ sends ++ (clock ∷ transmit 1 ∷ clock ∷ receive 4 ∷ receive 4 ∷ [])
+
+-- 0 sends a message, and 1 sends on the same
+abbrev relayed : Message → List Event
+relayed m = opening (send 1 m ∷ []) ++ ending (send 3 m ∷ [])
+
+-- 0 sends nothing, and 1 has nothing to send on
+abbrev silent : List Event
+silent = opening [] ++ ending []
+
+abbrev hi : Message
+hi = 72 ∷ 73 ∷ []
+
+abbrev no : Message
+no = 78 ∷ 79 ∷ []
+
+abbrev onwards : List Event
+onwards = relayed hi
 
 abbrev modeHeld : Holding → ℕ
 modeHeld (clockHeld clock) = 0
@@ -91,7 +101,7 @@ modeHeld nothingHeld = 0
 
 -- partition 3 alone: creates its port, sends, goes to NORMAL
 abbrev early : List Event
-early = create 0 67 ∷ send 5 ∷ event 12 3 0 0 0 [] ∷ []
+early = create 0 67 ∷ send 5 hi ∷ event 12 3 0 0 0 [] ∷ []
 
 -- the two states: as loaded, and after partition 3's events
 abbrev at : ℕ → List ℕ → List (List ℕ) → State
@@ -106,11 +116,11 @@ abbrev first : State
 first = at 0 (replicate 16 1) []
 
 abbrev second : State
-second = at 1 (set (replicate 16 1) 3 3) ((72 ∷ 73 ∷ []) ∷ [])
+second = at 1 (set (replicate 16 1) 3 3) (hi ∷ [])
 
 -- the second list has two more events of partition 3's
 abbrev more : List Event
-more = send 5 ∷ event 10 0 5 0 0 [] ∷ onwards
+more = send 5 hi ∷ event 10 0 5 0 0 [] ∷ onwards
 
 pub flow-accepted : accepts flowTables ≡ true
 unfolding computing
@@ -188,8 +198,11 @@ unfolding computing
 second-mattering = refl
 
 -- the conclusions, computed: partition 2 is told its port's id, then the message, then that there is none; and holds its port, empty
+abbrev viewOf : Message → List (List ℕ)
+viewOf m = told 2 (toldId 4) ∷ told 2 (toldMessage m 0) ∷ refusal not-available 2 ∷ []
+
 abbrev view : List (List ℕ)
-view = told 2 (toldId 4) ∷ told 2 (toldMessage (72 ∷ 73 ∷ []) 0) ∷ refusal not-available 2 ∷ []
+view = viewOf hi
 
 abbrev left : Holding
 left = partHeld 1 (fresh ∷ fresh ∷ fresh ∷ record { created = 1; arrival = 0; validity = 0; queue = [] } ∷ fresh ∷ [])
@@ -215,10 +228,41 @@ pub three-differs : holds flowTables first 3 ≡ holds flowTables second 3 → �
 unfolding computing
 three-differs same = let z : _≡_ {A = ℕ} 1 3 = ap modeHeld same in omega arith
 
--- without an event that matters, partition 1's sending on, partition 2 is told something else
-pub without-send :
-    answersTo flowTables 2 first (without 12 onwards)
-    ≡ told 2 (toldId 4) ∷ refusal not-available 2 ∷ refusal not-available 2 ∷ []
+-- partition 0's send is what partition 2 hears of. Partition 1 is answered its receive with the message that 0 sent, which is what it then sends on
+abbrev toOne : List Event → List ℕ
+toOne sends = answer flowTables (afterAll flowTables first (opening sends)) (receive 2)
+
+pub one-receives : (toOne (send 1 hi ∷ []) ≡ told 1 (toldMessage hi 0)) × (toOne (send 1 no ∷ []) ≡ told 1 (toldMessage no 0))
+unfolding computing
+one-receives = (refl, refl)
+
+-- so these are the lists that 0's sends make, with a partition 1 that sends on the message it is handed, and nothing where it is handed none
+abbrev sentOn : Message → List Event
+sentOn [] = []
+sentOn (b ∷ bs) = send 3 (b ∷ bs) ∷ []
+
+abbrev played : List Event → List Event
+played sends = opening sends ++ ending (sentOn (handed (toOne sends) 0))
+
+pub one-sends-on : (played (send 1 hi ∷ []) ≡ relayed hi) × (played (send 1 no ∷ []) ≡ relayed no) × (played [] ≡ silent)
+unfolding computing
+one-sends-on = (refl, refl, refl)
+
+-- another message of 0's, and partition 2 is told another
+pub other-told : answersTo flowTables 2 first (relayed no) ≡ viewOf no
+unfolding computing
+other-told = refl
+
+pub views-differ : viewOf hi ≡ viewOf no → ⊥
+unfolding computing
+views-differ same = let z : _≡_ {A = ℕ} 72 78 = ap (λ view. getD (joined view) 96 0) same in omega arith
+
+-- without 0's send partition 1 receives nothing, and partition 2 is told that there is nothing
+pub one-receives-nothing : toOne [] ≡ refusal not-available 1
+unfolding computing
+one-receives-nothing = refl
+
+pub without-send : answersTo flowTables 2 first silent ≡ told 2 (toldId 4) ∷ refusal not-available 2 ∷ refusal not-available 2 ∷ []
 unfolding computing
 without-send = refl
 
