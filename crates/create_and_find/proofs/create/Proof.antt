@@ -62,7 +62,8 @@ returns c =
     let at-look-up = from-then1 at-then1 in
     let at-need = at-look-up .before in
     let s = from-need at-need in
-    λ clock. rw (create-none (s .pre .0) clock (s .args .modes .now) (s .args .p) (s .args .event .now) (callOf (s .args .f)) (at-need .need .ensures) (at-look-up .look-up .ensures) (at-then1 .if1 .taken)) (refused-does (c .refusal .ensures))
+    λ clock. rw
+    (create-none (s .pre .0) clock (s .args .modes .now) (s .args .p) (s .args .event .now) (callOf (s .args .f)) (at-need .need .ensures) (at-look-up .look-up .ensures) (at-then1 .if1 .taken)) (refused-does (c .refusal .ensures))
 
 add-port-row : tie.Need-add-port-row
 add-port-row c =

@@ -41,7 +41,8 @@ returns c =
     let at-look-up = from-then1 at-then1 in
     let at-need = at-look-up .before in
     let s = from-need at-need in
-    λ modes clock. rw (id-none (s .pre .0) clock modes (s .args .p) (s .args .event .now) (callOf (s .args .f)) (at-need .need .ensures) (at-look-up .look-up .ensures) (at-then1 .if1 .taken)) (refused-does (c .refusal .ensures))
+    λ modes clock. rw
+    (id-none (s .pre .0) clock modes (s .args .p) (s .args .event .now) (callOf (s .args .f)) (at-need .need .ensures) (at-look-up .look-up .ensures) (at-then1 .if1 .taken)) (refused-does (c .refusal .ensures))
 
 number-requires : tie.Need-number-requires
 number-requires c κs =
@@ -62,7 +63,8 @@ returns-2 c =
     let at-look-up = from-else1 at-else1 in
     let at-need = at-look-up .before in
     let s = from-need at-need in
-    λ modes clock. rw (id-unmade (s .pre .0) clock modes (s .args .p) (s .args .event .now) (callOf (s .args .f)) (at-need .need .ensures) (at-look-up .look-up .ensures) (at-else1 .if1 .left) (at-number .number .ensures) (at-then2 .if2 .taken)) (refused-does (c .refusal2 .ensures))
+    λ modes clock. rw
+    (id-unmade (s .pre .0) clock modes (s .args .p) (s .args .event .now) (callOf (s .args .f)) (at-need .need .ensures) (at-look-up .look-up .ensures) (at-else1 .if1 .left) (at-number .number .ensures) (at-then2 .if2 .taken)) (refused-does (c .refusal2 .ensures))
 
 add-told-id : tie.Need-add-told-id
 add-told-id c = search needs
@@ -87,7 +89,8 @@ returns-3 c =
     let at-look-up = from-else1 at-else1 in
     let at-need = at-look-up .before in
     let s = from-need at-need in
-    λ modes clock. rw (id-made (s .pre .0) clock modes (s .args .p) (s .args .event .now) (callOf (s .args .f)) (at-need .need .ensures) (at-look-up .look-up .ensures) (at-else1 .if1 .left) (at-number .number .ensures) (at-else2 .if2 .left)) (record { answered = c .told-id .ensures ∙ ap (λ i. toldAs (s .args .p) (toldId i)) (add-one (at-look-up .look-up .result)); left = refl })
+    λ modes clock. rw
+    (id-made (s .pre .0) clock modes (s .args .p) (s .args .event .now) (callOf (s .args .f)) (at-need .need .ensures) (at-look-up .look-up .ensures) (at-else1 .if1 .left) (at-number .number .ensures) (at-else2 .if2 .left)) (record { answered = c .told-id .ensures ∙ ap (λ i. toldAs (s .args .p) (toldId i)) (add-one (at-look-up .look-up .result)); left = refl })
 
 pub get-id-spec : {M : Type 1} → statement M
 get-id-spec =

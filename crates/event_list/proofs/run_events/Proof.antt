@@ -80,8 +80,10 @@ loop-again c =
       r .kept .1 .1 .1 .1 .0 ∙ l .inv .3,
       r .kept .1 .1 .1 .1 .1 .0 ∙ l .inv .4,
       r .kept .1 .1 .1 .1 .1 .1 .1 .0 ∙ l .inv .5,
-      one-more (a .t .now) (a .lay) (l .i) es (omega (arith, l .inv .0, at-in-loop .loop-test .taken)) (a .clock) (a .modes .now) (a .numbers .now) (a .bytes .now) (a .answers .now)
-          (l .present) (l .modes) (l .numbers) (l .bytes) (l .answers) (r .result) (r .last .1 .1 .1 .0) (r .last .1 .1 .1 .1 .0) (r .last .1 .1 .1 .1 .1 .0) (r .last .1 .1 .1 .1 .1 .1 .1 .0)
+      one-more (a .t .now) (a .lay) (l .i) es (omega (arith, l .inv .0, at-in-loop .loop-test .taken)) (a .clock) (a .modes .now) (a .numbers .now)
+          (a .bytes .now) (a .answers .now)
+          (l .present) (l .modes) (l .numbers) (l .bytes) (l .answers) (r .result) (r .last .1 .1 .1 .0) (r .last .1 .1 .1 .1 .0)
+          (r .last .1 .1 .1 .1 .1 .0) (r .last .1 .1 .1 .1 .1 .1 .1 .0)
           (l .inv .6) (r .ensures) (r .kept .1 .1 .1 .1 .0) (r .kept .1 .1 .1 .1 .1 .0),
     )
 

@@ -44,7 +44,8 @@ returns c =
     let at-then1 = c .before in
     let at-window-partition = at-then1 .before in
     let s = from-window-partition at-window-partition in
-    Laws.acts (Laws.at-mover-call (s .args .t .now) _ (s .args .event .now) (callOf (s .args .f)) (s .pre .1 .1) (sym (at-window-partition .window-partition .ensures) ∙ at-then1 .if1 .taken)) (refused-does (c .refusal .ensures))
+    Laws.acts
+    (Laws.at-mover-call (s .args .t .now) _ (s .args .event .now) (callOf (s .args .f)) (s .pre .1 .1) (sym (at-window-partition .window-partition .ensures) ∙ at-then1 .if1 .taken)) (refused-does (c .refusal .ensures))
 
 service-requires : tie.Need-service-requires
 service-requires c κs =
@@ -83,7 +84,9 @@ returns-2 c =
     let st = shown t (clockOf k) ms n b in
     let o = at-window-partition .window-partition .ensures in
     let f = callOf (s .args .f) in
-    Laws.acts (subst (λ p. Laws.At t st e p (service t (k .time) st p e f)) (sym o) (Laws.at-call t st e f (s .pre .1 .1) (λ z. at-else1 .if1 .left (o ∙ z)))) (at-service .service .ensures (clockOf k))
+    Laws.acts
+    (subst (λ p. Laws.At t st e p (service t (k .time) st p e f)) (sym o) (Laws.at-call t st e f (s .pre .1 .1) (λ z. at-else1 .if1 .left (o ∙ z))))
+    (at-service .service .ensures (clockOf k))
 
 pub call-turn-spec : {M : Type 1} → statement M
 call-turn-spec =

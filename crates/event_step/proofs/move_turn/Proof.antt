@@ -47,7 +47,8 @@ returns c =
     let at-then1 = c .before in
     let at-window-partition = at-then1 .before in
     let s = from-window-partition at-window-partition in
-    Laws.acts (Laws.at-partition-move (s .args .t .now) _ (s .args .event .now) (s .args .c) (s .pre .1) (λ z. at-then1 .if1 .taken (at-window-partition .window-partition .ensures ∙ z))) (refused-does (c .refusal .ensures))
+    Laws.acts
+    (Laws.at-partition-move (s .args .t .now) _ (s .args .event .now) (s .args .c) (s .pre .1) (λ z. at-then1 .if1 .taken (at-window-partition .window-partition .ensures ∙ z))) (refused-does (c .refusal .ensures))
 
 refusal-requires-2 : tie.Need-refusal-requires-2
 refusal-requires-2 c κs = search needs
@@ -58,7 +59,8 @@ returns-2 c =
     let at-else1 = from-then2 at-then2 in
     let at-window-partition = at-else1 .before in
     let s = from-window-partition at-window-partition in
-    Laws.acts (Laws.at-no-channel (s .args .t .now) _ (s .args .event .now) (s .args .c) (s .pre .1) (sym (at-window-partition .window-partition .ensures) ∙ at-else1 .if1 .left) (omega (arith, s .pre .0 .held .laid .channelled, at-then2 .if2 .taken))) (refused-does (c .refusal2 .ensures))
+    Laws.acts
+    (Laws.at-no-channel (s .args .t .now) _ (s .args .event .now) (s .args .c) (s .pre .1) (sym (at-window-partition .window-partition .ensures) ∙ at-else1 .if1 .left) (omega (arith, s .pre .0 .held .laid .channelled, at-then2 .if2 .taken))) (refused-does (c .refusal2 .ensures))
 
 transmit-requires : tie.Need-transmit-requires
 transmit-requires c κs =
@@ -79,7 +81,8 @@ returns-3 c =
     let at-else1 = from-else2 at-else2 in
     let at-window-partition = at-else1 .before in
     let s = from-window-partition at-window-partition in
-    Laws.acts (Laws.at-move (s .args .t .now) _ (s .args .event .now) (s .args .c) (s .pre .1) (sym (at-window-partition .window-partition .ensures) ∙ at-else1 .if1 .left) (omega (arith, s .pre .0 .held .laid .channelled, at-else2 .if2 .left))) (at-transmit .transmit .ensures (clockOf (s .args .clock)) (s .args .modes .now))
+    Laws.acts
+    (Laws.at-move (s .args .t .now) _ (s .args .event .now) (s .args .c) (s .pre .1) (sym (at-window-partition .window-partition .ensures) ∙ at-else1 .if1 .left) (omega (arith, s .pre .0 .held .laid .channelled, at-else2 .if2 .left))) (at-transmit .transmit .ensures (clockOf (s .args .clock)) (s .args .modes .now))
 
 pub move-turn-spec : {M : Type 1} → statement M
 move-turn-spec =

@@ -88,7 +88,9 @@ returns c =
     let n = s .args .numbers .now in
     let b = s .args .bytes .now in
     let k = s .args .clock in
-    Laws.acts (Laws.at-clock (s .args .t .now) _ (s .args .event .now) (sym (at-decode .decode .ensures) ∙ ap askedOf (at-enum-told .enum-told .given .1))) (Laws.schedule-does t (clockOf k) (clockOf (at-tick .tick .result)) ms n b (c .told-number .result) (at-tick .tick .ensures) (c .told-number .ensures))
+    Laws.acts
+    (Laws.at-clock (s .args .t .now) _ (s .args .event .now) (sym (at-decode .decode .ensures) ∙ ap askedOf (at-enum-told .enum-told .given .1)))
+    (Laws.schedule-does t (clockOf k) (clockOf (at-tick .tick .result)) ms n b (c .told-number .result) (at-tick .tick .ensures) (c .told-number .ensures))
 
 same-length : tie.Need-same-length
 same-length c = search needs
@@ -123,7 +125,9 @@ returns-4 c =
     let at-enum-told2 = c .before in
     let at-decode = from-enum-told2 at-enum-told2 in
     let s = from-decode at-decode in
-    Laws.acts (Laws.at-unknown (s .args .t .now) _ (s .args .event .now) (sym (at-decode .decode .ensures) ∙ ap askedOf (at-enum-told2 .enum-told2 .given .1))) (refused-does (c .refusal .ensures))
+    Laws.acts
+    (Laws.at-unknown (s .args .t .now) _ (s .args .event .now) (sym (at-decode .decode .ensures) ∙ ap askedOf (at-enum-told2 .enum-told2 .given .1)))
+    (refused-does (c .refusal .ensures))
 
 pub turn-spec : {M : Type 1} → statement M
 turn-spec =

@@ -68,7 +68,8 @@ returns-2 c =
     let s = s' .args in
     let from = s .state .now in
     let es = s .event .now in
-    sized (s .tables .now) from (eqb (length es) 80) es (s .answers .now) (eq-eqb (length from) 36120 (at-else1 .if1 .left)) (at-state-of .state-of .ensures) (at-step .step .ensures) (at-hand-back .hand-back .ensures)
+    sized (s .tables .now) from (eqb (length es) 80) es (s .answers .now) (eq-eqb (length from) 36120 (at-else1 .if1 .left))
+    (at-state-of .state-of .ensures) (at-step .step .ensures) (at-hand-back .hand-back .ensures)
 
 pub mueanphrai-step-spec : {M : Type 1} → statement M
 mueanphrai-step-spec =

@@ -63,7 +63,8 @@ returns-3 c =
     let st = s .args .state in
     let es = s .args .events .now in
     let b = s .args .answers .now in
-    Laws.refuses-29 t st es b (at-else1 .if1 .left) (Sound.sound-is t st (sym (at-is-accepted .is-accepted .ensures) ∙ not-false _ (at-else2 .if2 .left)) (at-state-fits .state-fits .ensures) ∙ not-true _ (c .if3 .taken))
+    Laws.refuses-29 t st es b (at-else1 .if1 .left)
+    (Sound.sound-is t st (sym (at-is-accepted .is-accepted .ensures) ∙ not-false _ (at-else2 .if2 .left)) (at-state-fits .state-fits .ensures) ∙ not-true _ (c .if3 .taken))
 
 returns-4 : tie.Need-returns-4
 returns-4 c =
@@ -77,7 +78,8 @@ returns-4 c =
     let st = s .args .state in
     let es = s .args .events .now in
     let b = s .args .answers .now in
-    Laws.runs-none t st es b (at-else1 .if1 .left) (Sound.sound-is t st (sym (at-is-accepted .is-accepted .ensures) ∙ not-false _ (at-else2 .if2 .left)) (at-state-fits .state-fits .ensures) ∙ not-false _ (at-else3 .if3 .left)) (c .if4 .taken)
+    Laws.runs-none t st es b (at-else1 .if1 .left)
+    (Sound.sound-is t st (sym (at-is-accepted .is-accepted .ensures) ∙ not-false _ (at-else2 .if2 .left)) (at-state-fits .state-fits .ensures) ∙ not-false _ (at-else3 .if3 .left)) (c .if4 .taken)
 
 run-list-requires : tie.Need-run-list-requires
 run-list-requires c κs =
@@ -107,7 +109,8 @@ returns-5 c =
     let st = s .args .state in
     let es = s .args .events .now in
     let b = s .args .answers .now in
-    Laws.runs-all t st es b (at-else1 .if1 .left) (Sound.sound-is t st (sym (at-is-accepted .is-accepted .ensures) ∙ not-false _ (at-else2 .if2 .left)) (at-state-fits .state-fits .ensures) ∙ not-false _ (at-else3 .if3 .left)) (at-else4 .if4 .left) (at-run-list .run-list .result) (at-run-list .run-list .last .1 .1 .1 .1 .0) (at-run-list .run-list .ensures)
+    Laws.runs-all t st es b (at-else1 .if1 .left)
+    (Sound.sound-is t st (sym (at-is-accepted .is-accepted .ensures) ∙ not-false _ (at-else2 .if2 .left)) (at-state-fits .state-fits .ensures) ∙ not-false _ (at-else3 .if3 .left)) (at-else4 .if4 .left) (at-run-list .run-list .result) (at-run-list .run-list .last .1 .1 .1 .1 .0) (at-run-list .run-list .ensures)
 
 pub carry-out-spec : {M : Type 1} → statement M
 carry-out-spec =

@@ -35,7 +35,8 @@ returns-2 c =
     let at-carry-out = from-slice-known2 c in
     let at-else1 = from-carry-out at-carry-out in
     let s = from-else1 at-else1 in
-    Laws.runs-whole (s .args .t .now) (s .args .state) (s .args .event .now) (s .args .answers .now) (eq-eqb (length (s .args .event .now)) 80 (at-else1 .if1 .left)) (at-carry-out .carry-out .ensures)
+    Laws.runs-whole (s .args .t .now) (s .args .state) (s .args .event .now) (s .args .answers .now)
+    (eq-eqb (length (s .args .event .now)) 80 (at-else1 .if1 .left)) (at-carry-out .carry-out .ensures)
 
 pub step-spec : {M : Type 1} → statement M
 step-spec = tie.close (tie.spec returns carry-out-requires same-length returns-2)

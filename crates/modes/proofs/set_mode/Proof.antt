@@ -123,7 +123,8 @@ returns-5 c =
     let other : (eqb m 2 && eqb (getD ms p 0) 1) ≡ false =
     ⊎-elim (λ w. (rw (ne-eqb (getD ms p 0) 1 (w .1 .left)) (and-false (eqb m 2)))) (λ w. rw (ne-eqb m 2 (w .left))) (at-joined4 .if4 .came)
     in
-    λ b clock. rw (SetMode.mode-start t (shown t clock ms n b) p m (at-else1 .if1 .left) (at-else2 .if2 .left) other) (record { answered = c .done2 .ensures; left = ap (λ ps. record { clock = clock; modes = set ms p m; ports = ps }) (at-unmake-all .unmake-all .ensures b) })
+    λ b clock. rw (SetMode.mode-start t (shown t clock ms n b) p m (at-else1 .if1 .left) (at-else2 .if2 .left) other)
+    (record { answered = c .done2 .ensures; left = ap (λ ps. record { clock = clock; modes = set ms p m; ports = ps }) (at-unmake-all .unmake-all .ensures b) })
 
 pub set-mode-spec : {M : Type 1} → statement M
 set-mode-spec =

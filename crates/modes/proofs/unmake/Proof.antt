@@ -38,7 +38,8 @@ returns c =
     let at-set-number3 = from-set-number4 at-set-number4 in
     let at-set-number2 = from-set-number3 at-set-number3 in
     let at-set-number = from-set-number2 at-set-number2 in
-    λ bytes. Unmade.unmade-row (at-set-number .set-number .ensures) (at-set-number2 .set-number2 .ensures) (at-set-number3 .set-number3 .ensures) (at-set-number4 .set-number4 .ensures) bytes
+    λ bytes. Unmade.unmade-row (at-set-number .set-number .ensures) (at-set-number2 .set-number2 .ensures) (at-set-number3 .set-number3 .ensures)
+    (at-set-number4 .set-number4 .ensures) bytes
 
 pub unmake-spec : {M : Type 1} → statement M
 unmake-spec =

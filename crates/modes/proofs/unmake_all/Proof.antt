@@ -94,7 +94,8 @@ returns c =
     let s = from-at-loop at-at-loop in
     let l = at-at-loop .loop in
     let all : l .k ≡ ports (s .args .t .now) = omega (arith, s .pre .0 .laid .ported, c .if1 .left, l .inv .0) in
-    λ bytes. swept-all (s .args .t .now) (s .args .p) (s .args .numbers .now) (ports (s .args .t .now)) (l .numbers) (subst (λ k. Swept (s .args .t .now) (s .args .p) k (s .args .numbers .now) (l .numbers)) all (l .inv .2)) bytes
+    λ bytes. swept-all (s .args .t .now) (s .args .p) (s .args .numbers .now) (ports (s .args .t .now)) (l .numbers)
+    (subst (λ k. Swept (s .args .t .now) (s .args .p) k (s .args .numbers .now) (l .numbers)) all (l .inv .2)) bytes
 
 pub unmake-all-spec : {M : Type 1} → statement M
 unmake-all-spec =

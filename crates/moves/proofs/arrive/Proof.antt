@@ -95,7 +95,8 @@ returns-3 c =
     let q = portAt (a .numbers .now) (a .bytes .now) (a .k) in
     let made : q .created ≡ 1 = omega (arith, at-else1 .if1 .left, at-number .number .ensures, created-is (a .numbers .now) (a .bytes .now) (a .k), s .pre .0 .port .marked) in
     let queuing : rowOf (a .row) .mode ≡ 1 = ap modeOf (c .enum-told2 .given .1) in
-    put-is {q = withQueue q (stored (rowOf (a .row)) (q .queue) (written (lettered (a .letter .now) (a .size))))} (at-store .store .ensures) (sym (arrived-queuing (a .time) (rowOf (a .row)) (written (lettered (a .letter .now) (a .size))) q made queuing))
+    put-is {q = withQueue q (stored (rowOf (a .row)) (q .queue) (written (lettered (a .letter .now) (a .size))))} (at-store .store .ensures)
+    (sym (arrived-queuing (a .time) (rowOf (a .row)) (written (lettered (a .letter .now) (a .size))) q made queuing))
 
 pub arrive-spec : {M : Type 1} → statement M
 arrive-spec =

@@ -68,7 +68,8 @@ loop-holds c =
       s .pre .0,
       refl,
       refl,
-      λ clock modes. ap (λ i. delivered (a .t .now) (λ k. a .time) (a .c) (written (lettered (a .letter .now) (a .size))) i 0 (shown (a .t .now) clock modes (a .numbers .now) (a .bytes .now))) (sub-zero (c .destination-count .result)),
+      λ clock modes. ap
+          (λ i. delivered (a .t .now) (λ k. a .time) (a .c) (written (lettered (a .letter .now) (a .size))) i 0 (shown (a .t .now) clock modes (a .numbers .now) (a .bytes .now))) (sub-zero (c .destination-count .result)),
     )
 
 hand-on-requires : tie.Need-hand-on-requires Inv-loop μ-loop
@@ -102,7 +103,8 @@ loop-again c =
       held-on (l .inv .1) (a .c) (s .pre .1 .0) (l .j) few (a .time) (s .pre .1 .1) (put .ensures) (put .kept .1 .1 .0) (put .kept .1 .1 .1 .0),
       put .kept .1 .1 .0 ∙ l .inv .2,
       put .kept .1 .1 .1 .0 ∙ l .inv .3,
-      λ clock modes. turn (l .inv .1) (a .c) (s .pre .1 .0) (l .j) few (a .time) (written (lettered (a .letter .now) (a .size))) (put .ensures) n more clock modes ∙ l .inv .4 clock modes,
+      λ clock modes. turn (l .inv .1) (a .c) (s .pre .1 .0) (l .j) few (a .time) (written (lettered (a .letter .now) (a .size)))
+          (put .ensures) n more clock modes ∙ l .inv .4 clock modes,
     )
 
 same-length : tie.Need-same-length Inv-loop μ-loop

@@ -78,7 +78,8 @@ returns c =
     let at-destination-port = from-port-row at-port-row in
     let s = from-destination-port at-destination-port in
     let a = s .args in
-    handed (s .pre .0) (a .c) (s .pre .1 .0 .0) (a .j) (s .pre .1 .0 .1) (a .time) (written (lettered (a .letter .now) (a .size))) (at-destination-port .destination-port .ensures) (at-port-row .port-row .ensures) (at-arrive .arrive .ensures)
+    handed (s .pre .0) (a .c) (s .pre .1 .0 .0) (a .j) (s .pre .1 .0 .1) (a .time) (written (lettered (a .letter .now) (a .size)))
+    (at-destination-port .destination-port .ensures) (at-port-row .port-row .ensures) (at-arrive .arrive .ensures)
 
 pub hand-on-spec : {M : Type 1} → statement M
 hand-on-spec =

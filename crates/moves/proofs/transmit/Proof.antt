@@ -123,7 +123,8 @@ returns-2 c =
     let last = at-deliver .deliver .last in
     let counted = at-waiting .waiting .ensures in
     let some = at-else1 .if1 .left in
-    moved (s .pre .0) (s .args .c) (s .pre .1) (at-source-port .source-port .ensures) counted some (at-take-oldest .take-oldest .ensures) (s .args .time) (last .1 .1 .0) (last .1 .1 .1 .0) (at-deliver .deliver .ensures) (c .done .ensures)
+    moved (s .pre .0) (s .args .c) (s .pre .1) (at-source-port .source-port .ensures) counted some (at-take-oldest .take-oldest .ensures)
+    (s .args .time) (last .1 .1 .0) (last .1 .1 .1 .0) (at-deliver .deliver .ensures) (c .done .ensures)
 
 pub transmit-spec : {M : Type 1} → statement M
 transmit-spec =

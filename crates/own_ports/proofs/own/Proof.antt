@@ -126,7 +126,8 @@ returns-5 c =
     let there : f .id - 1 < ports t = omega (arith, some, few) in
     let shows = row-at (s .pre .0) (f .id - 1) there (at-port-row .port-row .ensures) in
     let compared = ap₂ eqb (ap (λ x. x .mode) shows) (ap (λ x. x .mode) (at-need .need .ensures)) in
-    rw (c .number .ensures) (sym (OwnPorts.own-mark t n p f some few (sym (ap (λ x. x .owner) shows) ∙ at-else3 .if3 .left) (sym (at-is-mode .is-mode .ensures ∙ compared) ∙ not-false _ (at-else4 .if4 .left))))
+    rw (c .number .ensures)
+    (sym (OwnPorts.own-mark t n p f some few (sym (ap (λ x. x .owner) shows) ∙ at-else3 .if3 .left) (sym (at-is-mode .is-mode .ensures ∙ compared) ∙ not-false _ (at-else4 .if4 .left))))
 
 pub own-spec : {M : Type 1} → statement M
 own-spec =

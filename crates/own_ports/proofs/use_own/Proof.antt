@@ -120,7 +120,9 @@ returns-2 c =
     let h = s .pre .0 in
     let row = at-port-row .port-row in
     let served = at-serve .serve in
-    use-served t (s .args .numbers .now) (s .args .p) f (at-own .own .ensures) (at-else1 .if1 .left) (s .args .time) h (s .args .event .now) (row .result) (row .ensures ∙ ap (λ w. decoded (rowAt t (w + (f .id - 1)))) (h .laid .windowed)) (served .last .0) (served .last .1 .0) (served .result) (served .ensures)
+    use-served t (s .args .numbers .now) (s .args .p) f (at-own .own .ensures) (at-else1 .if1 .left) (s .args .time) h (s .args .event .now)
+    (row .result) (row .ensures ∙ ap (λ w. decoded (rowAt t (w + (f .id - 1)))) (h .laid .windowed)) (served .last .0) (served .last .1 .0)
+    (served .result) (served .ensures)
 
 pub use-own-spec : {M : Type 1} → statement M
 use-own-spec =

@@ -50,7 +50,8 @@ returns c =
     let at-then1 = c .before in
     let s = from-then1 at-then1 in
     let a = s .args in
-    λ clock. rw (by-idle (a .t .now) (a .time) (shown (a .t .now) clock (a .modes .now) (a .numbers .now) (a .bytes .now)) (a .p) (a .event .now) (callOf (a .f)) (at-then1 .if1 .taken)) (refused-does (c .refusal .ensures))
+    λ clock. rw
+    (by-idle (a .t .now) (a .time) (shown (a .t .now) clock (a .modes .now) (a .numbers .now) (a .bytes .now)) (a .p) (a .event .now) (callOf (a .f)) (at-then1 .if1 .taken)) (refused-does (c .refusal .ensures))
 
 create-requires : tie.Need-create-requires
 create-requires c κs = search needs
@@ -82,7 +83,8 @@ returns-2 c =
     let at-else1 = at-at-match-keys1 .before in
     let s = from-else1 at-else1 in
     let a = s .args in
-    λ clock. rw (by-create (a .t .now) (a .time) (shown (a .t .now) clock (a .modes .now) (a .numbers .now) (a .bytes .now)) (a .p) (a .event .now) (callOf (a .f)) (at-else1 .if1 .left) (at-at-match-keys1 .match .keys1)) (at-create .create .ensures clock)
+    λ clock. rw
+    (by-create (a .t .now) (a .time) (shown (a .t .now) clock (a .modes .now) (a .numbers .now) (a .bytes .now)) (a .p) (a .event .now) (callOf (a .f)) (at-else1 .if1 .left) (at-at-match-keys1 .match .keys1)) (at-create .create .ensures clock)
 
 same-length-4 : tie.Need-same-length-4
 same-length-4 c = search needs
@@ -96,7 +98,8 @@ returns-3 c =
     let at-else1 = at-at-match-keys2 .before in
     let s = from-else1 at-else1 in
     let a = s .args in
-    λ clock. rw (by-get-id (a .t .now) (a .time) (shown (a .t .now) clock (a .modes .now) (a .numbers .now) (a .bytes .now)) (a .p) (a .event .now) (callOf (a .f)) (at-else1 .if1 .left) (at-at-match-keys2 .match .keys2)) (c .get-id .ensures (a .modes .now) clock)
+    λ clock. rw
+    (by-get-id (a .t .now) (a .time) (shown (a .t .now) clock (a .modes .now) (a .numbers .now) (a .bytes .now)) (a .p) (a .event .now) (callOf (a .f)) (at-else1 .if1 .left) (at-at-match-keys2 .match .keys2)) (c .get-id .ensures (a .modes .now) clock)
 
 same-length-6 : tie.Need-same-length-6
 same-length-6 c = search needs
@@ -111,7 +114,8 @@ returns-4 c =
     let at-else1 = at-at-match-keys3 .before in
     let s = from-else1 at-else1 in
     let a = s .args in
-    λ clock. rw (by-set-mode (a .t .now) (a .time) (shown (a .t .now) clock (a .modes .now) (a .numbers .now) (a .bytes .now)) (a .p) (a .event .now) (callOf (a .f)) (at-else1 .if1 .left) (at-at-match-keys3 .match .keys3)) (at-set-mode .set-mode .ensures (a .bytes .now) clock)
+    λ clock. rw
+    (by-set-mode (a .t .now) (a .time) (shown (a .t .now) clock (a .modes .now) (a .numbers .now) (a .bytes .now)) (a .p) (a .event .now) (callOf (a .f)) (at-else1 .if1 .left) (at-at-match-keys3 .match .keys3)) (at-set-mode .set-mode .ensures (a .bytes .now) clock)
 
 same-length-8 : tie.Need-same-length-8
 same-length-8 c = search needs
@@ -126,7 +130,8 @@ returns-5 c =
     let at-else1 = at-at-match-rest .before in
     let s = from-else1 at-else1 in
     let a = s .args in
-    λ clock. rw (by-own (a .t .now) (a .time) (shown (a .t .now) clock (a .modes .now) (a .numbers .now) (a .bytes .now)) (a .p) (a .event .now) (callOf (a .f)) (at-else1 .if1 .left) (at-at-match-rest .match .rest .0 .0 .1) (at-at-match-rest .match .rest .0 .1) (at-at-match-rest .match .rest .1)) (at-use-own .use-own .ensures (a .modes .now) clock)
+    λ clock. rw
+    (by-own (a .t .now) (a .time) (shown (a .t .now) clock (a .modes .now) (a .numbers .now) (a .bytes .now)) (a .p) (a .event .now) (callOf (a .f)) (at-else1 .if1 .left) (at-at-match-rest .match .rest .0 .0 .1) (at-at-match-rest .match .rest .0 .1) (at-at-match-rest .match .rest .1)) (at-use-own .use-own .ensures (a .modes .now) clock)
 
 pub service-spec : {M : Type 1} → statement M
 service-spec =

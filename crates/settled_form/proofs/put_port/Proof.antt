@@ -80,7 +80,8 @@ lay-bytes-requires c κs =
     let at-settled = (from-lay-numbers (from-lay-numbers2 (from-lay-bytes-arg3 c))) .before .before .before in
     let at-take-store = at-settled .before in
     let s = from-take-store at-take-store in
-    let wide : length (at-settled .settled .result .bytes) ≡ 512 = ap (λ (st : Store). length (st .bytes)) (at-settled .settled .ensures) ∙ layOut-bytes (queueOf (at-take-store .take-store .result)) in
+    let wide : length (at-settled .settled .result .bytes) ≡ 512 = ap (λ (st : Store). length (st .bytes))
+    (at-settled .settled .ensures) ∙ layOut-bytes (queueOf (at-take-store .take-store .result)) in
     omega (arith, wide, s .pre .1 .few, s .pre .0 .1)
 
 same-length : tie.Need-same-length

@@ -92,7 +92,8 @@ returns-5 c =
     let a = s .args in
     let row = Shown.rowOf (a .row) in
     let n = rowOf (a .numbers .now) (a .k) in
-    ap (λ x. eqb x 0) (at-number4 .number4 .ensures) ∙ sym (uncreated row n (omega (arith, at-number .number .ensures, at-else1 .if1 .left)) (omega (arith, at-number2 .number2 .ensures, at-else2 .if2 .left)) (omega (arith, at-number3 .number3 .ensures, at-else3 .if3 .left)) (omega (arith, at-number4 .number4 .ensures, at-room .room .ensures, at-else4 .if4 .left)) (λ q. c .if5 .taken (at-number .number .ensures ∙ q)))
+    ap (λ x. eqb x 0) (at-number4 .number4 .ensures) ∙ sym
+    (uncreated row n (omega (arith, at-number .number .ensures, at-else1 .if1 .left)) (omega (arith, at-number2 .number2 .ensures, at-else2 .if2 .left)) (omega (arith, at-number3 .number3 .ensures, at-else3 .if3 .left)) (omega (arith, at-number4 .number4 .ensures, at-room .room .ensures, at-else4 .if4 .left)) (λ q. c .if5 .taken (at-number .number .ensures ∙ q)))
 
 lengths-fit-requires : tie.Need-lengths-fit-requires
 lengths-fit-requires c κs =
@@ -119,7 +120,10 @@ returns-6 c =
     let a = s .args in
     let row = Shown.rowOf (a .row) in
     let n = rowOf (a .numbers .now) (a .k) in
-    created row n (omega (arith, at-number .number .ensures, at-else1 .if1 .left)) (omega (arith, at-number2 .number2 .ensures, at-else2 .if2 .left)) (omega (arith, at-number3 .number3 .ensures, at-else3 .if3 .left)) (omega (arith, at-number4 .number4 .ensures, at-room .room .ensures, at-else4 .if4 .left)) (sym (at-number .number .ensures) ∙ at-else5 .if5 .left) (at-number3 .number3 .ensures) (at-number4 .number4 .ensures) (c .lengths-fit .ensures)
+    created row n (omega (arith, at-number .number .ensures, at-else1 .if1 .left)) (omega (arith, at-number2 .number2 .ensures, at-else2 .if2 .left))
+    (omega (arith, at-number3 .number3 .ensures, at-else3 .if3 .left))
+    (omega (arith, at-number4 .number4 .ensures, at-room .room .ensures, at-else4 .if4 .left))
+    (sym (at-number .number .ensures) ∙ at-else5 .if5 .left) (at-number3 .number3 .ensures) (at-number4 .number4 .ensures) (c .lengths-fit .ensures)
 
 pub port-fits-spec : {M : Type 1} → statement M
 port-fits-spec =

@@ -74,7 +74,8 @@ port-fits-requires c κs =
     let laid = s .pre .0 .1 in
     let a = accepted t (s .pre .0 .0) in
     let inside : l .k < ports t = omega (arith, laid .ported, at-then1 .if1 .taken) in
-    let shows : Shown.rowOf (c .port-row .result) ≡ row t (l .k) = row-read t a (l .k) inside (c .port-row .ensures ∙ ap (λ w. Shown.decoded (rowAt t (w + l .k))) (laid .windowed)) in
+    let shows : Shown.rowOf (c .port-row .result) ≡ row t (l .k) = row-read t a (l .k) inside
+    (c .port-row .ensures ∙ ap (λ w. Shown.decoded (rowAt t (w + l .k))) (laid .windowed)) in
     ((s .pre .1, omega (arith, a .fewPorts)), subst RowRanges (sym shows) (a .rows (l .k) inside))
 
 returns : tie.Need-returns Inv-loop μ-loop
@@ -89,8 +90,10 @@ returns c =
     let laid = s .pre .0 .1 in
     let a = accepted t (s .pre .0 .0) in
     let inside : l .k < ports t = omega (arith, laid .ported, at-then1 .if1 .taken) in
-    let shows : Shown.rowOf (at-port-row .port-row .result) ≡ row t (l .k) = row-read t a (l .k) inside (at-port-row .port-row .ensures ∙ ap (λ w. Shown.decoded (rowAt t (w + l .k))) (laid .windowed)) in
-    let judged : at-port-fits .port-fits .result ≡ portFits t (s .args .numbers .now) (l .k) = at-port-fits .port-fits .ensures ∙ ap (λ r. numbersFit r (rowOf (s .args .numbers .now) (l .k))) shows in
+    let shows : Shown.rowOf (at-port-row .port-row .result) ≡ row t (l .k) = row-read t a (l .k) inside
+    (at-port-row .port-row .ensures ∙ ap (λ w. Shown.decoded (rowAt t (w + l .k))) (laid .windowed)) in
+    let judged : at-port-fits .port-fits .result ≡ portFits t (s .args .numbers .now) (l .k) = at-port-fits .port-fits .ensures ∙ ap
+    (λ r. numbersFit r (rowOf (s .args .numbers .now) (l .k))) shows in
     sym (l .inv .1 ∙ all-stop (portFits t (s .args .numbers .now)) (ports t) (l .k) inside (sym judged ∙ not-true _ (c .if2 .taken)))
 
 add-k : tie.Need-add-k Inv-loop μ-loop
@@ -111,8 +114,10 @@ loop-again c =
     let laid = s .pre .0 .1 in
     let a = accepted t (s .pre .0 .0) in
     let inside : l .k < ports t = omega (arith, laid .ported, at-then1 .if1 .taken) in
-    let shows : Shown.rowOf (at-port-row .port-row .result) ≡ row t (l .k) = row-read t a (l .k) inside (at-port-row .port-row .ensures ∙ ap (λ w. Shown.decoded (rowAt t (w + l .k))) (laid .windowed)) in
-    let judged : at-port-fits .port-fits .result ≡ portFits t (s .args .numbers .now) (l .k) = at-port-fits .port-fits .ensures ∙ ap (λ r. numbersFit r (rowOf (s .args .numbers .now) (l .k))) shows in
+    let shows : Shown.rowOf (at-port-row .port-row .result) ≡ row t (l .k) = row-read t a (l .k) inside
+    (at-port-row .port-row .ensures ∙ ap (λ w. Shown.decoded (rowAt t (w + l .k))) (laid .windowed)) in
+    let judged : at-port-fits .port-fits .result ≡ portFits t (s .args .numbers .now) (l .k) = at-port-fits .port-fits .ensures ∙ ap
+    (λ r. numbersFit r (rowOf (s .args .numbers .now) (l .k))) shows in
     (omega arith, l .inv .1 ∙ all-more (portFits t (s .args .numbers .now)) (ports t) (l .k) inside (sym judged ∙ not-false _ (c .if2 .left)))
 
 returns-2 : tie.Need-returns-2 Inv-loop μ-loop

@@ -94,7 +94,8 @@ returns c =
     let at-put-together = from-struct-known2 c in
     let at-run-events = from-put-together at-put-together in
     let s = from-run-events at-run-events in
-    Laws.carried-out (s .args .t .now) (s .args .lay) (s .args .state) (s .args .events .now) (s .args .answers .now) (s .pre .1 .0) (s .pre .0 .1 .ported) (at-run-events .run-events .ensures) (at-put-together .put-together .ensures)
+    Laws.carried-out (s .args .t .now) (s .args .lay) (s .args .state) (s .args .events .now) (s .args .answers .now) (s .pre .1 .0)
+    (s .pre .0 .1 .ported) (at-run-events .run-events .ensures) (at-put-together .put-together .ensures)
 
 pub run-list-spec : {M : Type 1} → statement M
 run-list-spec =

@@ -128,7 +128,8 @@ returns-4 c =
     let source = sym (at-directed .directed .ensures) ∙ not-false _ (at-else3 .if3 .left) in
     let letter = at-letter-of .letter-of .ensures in
     let long : a .f .size ≤ 64 = omega (arith, room, s .pre .0 .ranges .fewBytes) in
-    rw (put-stored r e f q some room source) (c .done .ensures, put-is {q = withQueue q (stored r (q .queue) (written (at-letter-of .letter-of .result)))} (at-store .store .ensures) (ap (λ m. withQueue q (stored r (q .queue) m)) (ap written letter ∙ written-back e (a .f .size) long)))
+    rw (put-stored r e f q some room source)
+    (c .done .ensures, put-is {q = withQueue q (stored r (q .queue) (written (at-letter-of .letter-of .result)))} (at-store .store .ensures) (ap (λ m. withQueue q (stored r (q .queue) m)) (ap written letter ∙ written-back e (a .f .size) long)))
 
 pub put-spec : {M : Type 1} → statement M
 put-spec =

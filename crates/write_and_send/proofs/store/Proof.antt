@@ -95,7 +95,8 @@ returns-2 c =
     let a = s .args in
     let q = portAt (a .numbers .now) (a .bytes .now) (a .k) in
     let told = at-transfer .transfer .given in
-    put-is {q = withQueue q (offer (told .0 .0) (q .queue) (written (lettered (a .letter .now) (a .size))))} (at-offer .offer .ensures) (ap (withQueue q) (sym (stored-queuing (a .row) (told .0 .0) (q .queue) (written (lettered (a .letter .now) (a .size))) (told .1))))
+    put-is {q = withQueue q (offer (told .0 .0) (q .queue) (written (lettered (a .letter .now) (a .size))))} (at-offer .offer .ensures)
+    (ap (withQueue q) (sym (stored-queuing (a .row) (told .0 .0) (q .queue) (written (lettered (a .letter .now) (a .size))) (told .1))))
 
 pub store-spec : {M : Type 1} → statement M
 store-spec =

@@ -49,7 +49,8 @@ returns c =
     let s = from-at-loop at-at-loop in
     let a = s .args in
     let l = at-at-loop .loop in
-    found (a .t .now) (a .p) (a .mode) (a .event .now) (l .k) (l .inv .1) (omega (arith, s .pre .0 .laid .ported, at-then1 .if1 .taken)) (at-is-named .is-named .ensures) (c .if2 .taken)
+    found (a .t .now) (a .p) (a .mode) (a .event .now) (l .k) (l .inv .1) (omega (arith, s .pre .0 .laid .ported, at-then1 .if1 .taken))
+    (at-is-named .is-named .ensures) (c .if2 .taken)
 
 add-k : tie.Need-add-k Inv-loop μ-loop
 add-k c = search needs
