@@ -1,0 +1,2 @@
+-- What the demands say of the public calls and of the exported functions.
+pub mod Calls
