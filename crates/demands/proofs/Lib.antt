@@ -1,2 +1,4 @@
 pub mod Steps
 pub mod Body
+pub mod Edges
+pub mod Refusals
