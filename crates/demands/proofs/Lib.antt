@@ -2,3 +2,4 @@ pub mod Steps
 pub mod Body
 pub mod Edges
 pub mod Refusals
+pub mod Times
