@@ -3,3 +3,4 @@ pub mod Body
 pub mod Edges
 pub mod Refusals
 pub mod Times
+pub mod Widths
