@@ -4,3 +4,4 @@ pub mod Edges
 pub mod Refusals
 pub mod Times
 pub mod Widths
+pub mod Buffers
