@@ -5,3 +5,4 @@ pub mod Refusals
 pub mod Times
 pub mod Widths
 pub mod Buffers
+pub mod Isolation
