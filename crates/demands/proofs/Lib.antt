@@ -6,3 +6,4 @@ pub mod Times
 pub mod Widths
 pub mod Buffers
 pub mod Isolation
+pub mod WrongKernels
