@@ -5,11 +5,11 @@
 use Prim.Native.Nat.{ℕ, _+_, _*_, _%_, _≤_, _<_}
 use mathlib.Core.Path.{_≡_, refl, sym, _∙_, ap, subst}
 use mathlib.Core.Bool.{Bool, true, false, _&&_, not, true≢false}
-use mathlib.Core.List.{List}
+use mathlib.Core.List.{List, _++_}
 use native.Mathlib.Omega.{arith}
 use lib.Dec.{eqb, ltb}
-use lib.ListN.{length, getD, List·getD-eq-default}
-use borrow.Author.Tests.{eqb-true, eqb-false, ltb-true, ltb-false, not-true, not-false}
+use lib.ListN.{length, getD, length-append, List·getD-eq-default}
+use borrow.Author.Tests.{eqb-true, eq-eqb, ltb-true, ltb-false}
 use Rattle.model.specs.Words.{if_then_else_, word32}
 use Rattle.model.specs.Tables.{Tables, records, windows}
 use Rattle.model.specs.Load.{Verdict, accepted, refused, fault, firstFault, lengthFault, isAccepted, loadOf, accepts}
@@ -26,8 +26,8 @@ use Rattle.kernel.specs.Meets.{LoadMeets, ListMeets, RunMeets, StepMeets, state
 use Rattle.kernel.specs.Given.{Given}
 use Rattle.kernel.specs.Given as Kernel
 use Rattle.kernel.proofs.GivenStates.{sound-accepts, after-ranged}
-use Rattle.state_buffer.specs.Layout.{stateSize, numbersFrom, stateOf, bytesOf}
-use Rattle.state_buffer.proofs.Laws.{numbers-length, numbers-at, part-long}
+use Rattle.state_buffer.specs.Layout.{stateSize, numbersFrom, bytesOfAll, stateOf, bytesOf}
+use Rattle.state_buffer.proofs.Laws.{numbers-length, numbers-at, all-length, part-long}
 use Rattle.state_buffer.proofs.Round.{Typed, state-back}
 use Rattle.host.specs.Contracts.{isSized, numberIn, loadCode, bufferSound, bufferOr, HostLoad, HostList, HostRun, HostStep}
 use Rattle.host.proofs.Calls.{sound-as}
@@ -58,6 +58,13 @@ bytes-typed b whole small =
         let past : length (numbersFrom b 832 24) ≤ i = omega (arith, numbers-length b 832 24, ltb-false i 832 e) in
         rw (List·getD-eq-default (numbersFrom b 832 24) 0 past) (omega arith)
 
+-- a state whose numbers fit takes a buffer of a state's size
+laid-sized : (st : State) → Typed st → isSized (bytesOf st) ≡ true
+unfolding bytesOf
+laid-sized st h =
+    eq-eqb (length (bytesOf st)) stateSize
+    (omega (arith, h .modes, h .rows, h .bytes, length-append (st .modes) (bytesOfAll (st .numbers) ++ st .bytes), length-append (bytesOfAll (st .numbers)) (st .bytes), all-length (st .numbers)))
+
 -- ---- a call on a list
 
 module _ (t b : List ℕ) (typed : Typed (stateOf b)) (events : List ℕ) where
@@ -86,6 +93,10 @@ module _ (t b : List ℕ) (typed : Typed (stateOf b)) (events : List ℕ) where
         go true fits = state-back after (fits refl)
         go false fits = refl
 
+    after-sized : isSized b ≡ true → isSized (bufferOr fault events b (stateAfter fault t (stateOf b) events)) ≡ true
+    unfolding bufferOr
+    after-sized sized = by-test (λ (l : List ℕ). isSized l ≡ true) (eqb fault 0 && not (eqb (length events) 0)) (λ e. laid-sized (stateAfter fault t (stateOf b) events) after-fits) (λ e. sized)
+
   module _ (sized : isSized b ≡ true) (whole : Bool) (room : List ℕ) {r : ℕ} {b' answers : List ℕ} (h : HostList (listFault whole events room (bufferSound t b)) t b events room r b' answers) where
     called : HostList (listFault whole events room (isSound t (stateOf b))) t b events room r b' answers
     called = subst (λ s. HostList (listFault whole events room s) t b events room r b' answers) (sound-as t b sized) h
@@ -102,30 +113,37 @@ module _ (t b : List ℕ) (typed : Typed (stateOf b)) (events : List ℕ) where
     list-fits : Typed (stateOf b')
     list-fits = subst Typed (sym list-read) (after-fits (listFault whole events room (isSound t (stateOf b))) sound)
 
+    list-sized : isSized b' ≡ true
+    list-sized = subst (λ l. isSized l ≡ true) (sym (called .state)) (after-sized (listFault whole events room (isSound t (stateOf b))) sound sized)
+
+-- a buffer that holds a state as the layout keeps it: it has a state's size, and the numbers in it fit
+pub record Sits (b : List ℕ) : Type 0 where
+  pub sized : isSized b ≡ true
+  pub typed : Typed (stateOf b)
+
+-- so does every buffer of bytes of that size
+pub bytes-sit : (b : List ℕ) → length b ≡ stateSize → ((i : ℕ) → getD b i 0 < 256) → Sits b
+bytes-sit b whole small = record { sized = eq-eqb (length b) stateSize whole; typed = bytes-typed b whole small }
+
 -- a run or a step of the exported functions is the kernel's, on the state in the buffer, and leaves in the buffer the state that the kernel's leaves
-module _ (t b : List ℕ) (sized : isSized b ≡ true) (typed : Typed (stateOf b)) (events room : List ℕ) (r : ℕ) (b' answers : List ℕ) where
+module _ (t b : List ℕ) (sits : Sits b) (events room : List ℕ) (r : ℕ) (b' answers : List ℕ) where
   pub host-run-is-run : HostRun t b events room r b' answers → RunMeets t (stateOf b) events room (record { refusal = r; state = stateOf b' }) answers
-  host-run-is-run = list-is-kernel t b typed events sized (eqb (length events % eventSize) 0) room
+  host-run-is-run = list-is-kernel t b (sits .typed) events (sits .sized) (eqb (length events % eventSize) 0) room
 
   pub host-step-is-step : HostStep t b events room r b' answers → StepMeets t (stateOf b) events room (record { refusal = r; state = stateOf b' }) answers
-  host-step-is-step = list-is-kernel t b typed events sized (eqb (length events) eventSize) room
+  host-step-is-step = list-is-kernel t b (sits .typed) events (sits .sized) (eqb (length events) eventSize) room
 
-  pub host-run-fits : HostRun t b events room r b' answers → Typed (stateOf b')
-  host-run-fits = list-fits t b typed events sized (eqb (length events % eventSize) 0) room
+  pub host-run-sits : HostRun t b events room r b' answers → Sits b'
+  host-run-sits h =
+      let whole = eqb (length events % eventSize) 0 in
+      record { sized = list-sized t b (sits .typed) events (sits .sized) whole room h; typed = list-fits t b (sits .typed) events (sits .sized) whole room h }
 
-  pub host-step-fits : HostStep t b events room r b' answers → Typed (stateOf b')
-  host-step-fits = list-fits t b typed events sized (eqb (length events) eventSize) room
+  pub host-step-sits : HostStep t b events room r b' answers → Sits b'
+  host-step-sits h =
+      let whole = eqb (length events) eventSize in
+      record { sized = list-sized t b (sits .typed) events (sits .sized) whole room h; typed = list-fits t b (sits .typed) events (sits .sized) whole room h }
 
 -- ---- the buffers that the exported functions give
-
--- a call that is not refused had a buffer of a state's size
-sound-sized : (t b : List ℕ) → bufferSound t b ≡ true → isSized b ≡ true
-unfolding bufferSound
-sound-sized t b e = both-left (isSized b) (isSound t (stateOf b)) e
-
-called-sized : {t b events room b' answers : List ℕ} → HostCalled t b events room b' answers → isSized b ≡ true
-called-sized {t} {b} {events} {room} (byHostRun h) = sound-sized t b (not-refused (eqb (length events % eventSize) 0) events room (bufferSound t b) (sym (h .refusal)) .isSound)
-called-sized {t} {b} {events} {room} (byHostStep h) = sound-sized t b (not-refused (eqb (length events) eventSize) events room (bufferSound t b) (sym (h .refusal)) .isSound)
 
 -- a load that gives 0 had accepted tables and a buffer of a state's size
 refused-number : (t : Tables) → isAccepted (loadOf t) ≡ false → numberIn (loadOf t) ≡ 0 → ⊥
@@ -150,42 +168,37 @@ load-done t b z = go (isAccepted (loadOf t)) (isSized b) refl refl
     go true false p q = absurd (omega (arith, rw (p, q) at z))
     go false y p q = absurd (refused-number t p (sym (rw p at z)))
 
--- what a given buffer holds: a state that the public calls give, whose numbers fit
-pub record Keeps (t b : List ℕ) : Type 0 where
-  pub given : Given t (stateOf b)
-  pub typed : Typed (stateOf b)
-
 is-accepted : (v : Verdict) → isAccepted v ≡ true → accepted ≡ v
 is-accepted accepted e = refl
 is-accepted (refused n r) e = absurd (true≢false (sym e))
+
+-- what a given buffer holds: a state that the public calls give
+pub record Keeps (t b : List ℕ) : Type 0 where
+  pub given : Given t (stateOf b)
+  pub sits : Sits b
 
 load-keeps : (t b b' : List ℕ) → HostLoad t b 0 b' → Keeps t b'
 unfolding accepts
 load-keeps t b b' h =
     let done = load-done t b (h .code) in
-    let read : stateOf b' ≡ atLoad = ap stateOf (h .state ∙ (rw (done .0, done .1))) ∙ state-back atLoad load-typed in
+    let laid : b' ≡ bytesOf atLoad = h .state ∙ (rw (done .0, done .1)) in
+    let read : stateOf b' ≡ atLoad = ap stateOf laid ∙ state-back atLoad load-typed in
     record {
       given = Kernel.byLoad {r = record { verdict = Accepted; state = stateOf b' }} (record { verdict = is-accepted (loadOf t) (done .0); state = read ∙ (rw (done .0)) }) (done .0);
-      typed = subst Typed (sym read) load-typed;
+      sits = record { sized = subst (λ l. isSized l ≡ true) (sym laid) (laid-sized atLoad load-typed); typed = subst Typed (sym read) load-typed };
     }
 
-call-keeps : {t b events room b' answers : List ℕ} → Keeps t b → isSized b ≡ true → HostCalled t b events room b' answers → Keeps t b'
-call-keeps {t} {b} {events} {room} {b'} {answers} k sized (byHostRun h) =
-    record {
-      given = Kernel.byRun events room answers (k .given) (host-run-is-run t b sized (k .typed) events room 0 b' answers h) refl;
-      typed = host-run-fits t b sized (k .typed) events room 0 b' answers h;
-    }
-call-keeps {t} {b} {events} {room} {b'} {answers} k sized (byHostStep h) =
-    record {
-      given = Kernel.byStep events room answers (k .given) (host-step-is-step t b sized (k .typed) events room 0 b' answers h) refl;
-      typed = host-step-fits t b sized (k .typed) events room 0 b' answers h;
-    }
+call-keeps : {t b events room b' answers : List ℕ} → Keeps t b → HostCalled t b events room b' answers → Keeps t b'
+call-keeps {t} {b} {events} {room} {b'} {answers} k (byHostRun h) =
+    record { given = Kernel.byRun events room answers (k .given) (host-run-is-run t b (k .sits) events room 0 b' answers h) refl; sits = host-run-sits t b (k .sits) events room 0 b' answers h }
+call-keeps {t} {b} {events} {room} {b'} {answers} k (byHostStep h) =
+    record { given = Kernel.byStep events room answers (k .given) (host-step-is-step t b (k .sits) events room 0 b' answers h) refl; sits = host-step-sits t b (k .sits) events room 0 b' answers h }
 
 pub given-keeps : (t b : List ℕ) → HostGiven t b → Keeps t b
 given-keeps t b' (byLoad {b = b} h) = load-keeps t b b' h
-given-keeps t b' (byCall {b = b} g c) = call-keeps (given-keeps t b g) (called-sized c) c
+given-keeps t b' (byCall {b = b} g c) = call-keeps (given-keeps t b g) c
 
--- a call from a given buffer that is not refused is the kernel's call, from the state in it
-pub host-call-is-call : (t b events room b' answers : List ℕ) → HostGiven t b → HostCalled t b events room b' answers → Called t (stateOf b) events room (stateOf b') answers
-host-call-is-call t b events room b' answers g (byHostRun h) = byRun (host-run-is-run t b (called-sized (byHostRun h)) (given-keeps t b g .typed) events room 0 b' answers h)
-host-call-is-call t b events room b' answers g (byHostStep h) = byStep (host-step-is-step t b (called-sized (byHostStep h)) (given-keeps t b g .typed) events room 0 b' answers h)
+-- a call that is not refused is the kernel's call, from the state in the buffer
+pub host-call-is-call : (t b : List ℕ) → Sits b → (events room b' answers : List ℕ) → HostCalled t b events room b' answers → Called t (stateOf b) events room (stateOf b') answers
+host-call-is-call t b sits events room b' answers (byHostRun h) = byRun (host-run-is-run t b sits events room 0 b' answers h)
+host-call-is-call t b sits events room b' answers (byHostStep h) = byStep (host-step-is-step t b sits events room 0 b' answers h)

@@ -54,8 +54,10 @@ pub host-isolation :
     → matteringTo t p (stateIn t b) (eventsOf events) ≡ matteringTo t p (stateIn t b') (eventsOf events')  -- whose mattering events from there are the same records in the same order:
     → SameToHost t p b events after answers b' events' after' answers'  -- the partition is answered the same, byte for byte, and holds the same
 host-isolation t p few b g events room after answers c b' g' agree events' room' after' answers' c' matter =
+    let k = given-keeps t b g in
+    let k' = given-keeps t b' g' in
     let same =
-    call-isolation t p few (stateOf b) (given-keeps t b g .given) events room (stateOf after) answers (host-call-is-call t b events room after answers g c)
-    (stateOf b') (given-keeps t b' g' .given) agree events' room' (stateOf after') answers' (host-call-is-call t b' events' room' after' answers' g' c') matter
+    call-isolation t p few (stateOf b) (k .given) events room (stateOf after) answers (host-call-is-call t b (k .sits) events room after answers c)
+    (stateOf b') (k' .given) agree events' room' (stateOf after') answers' (host-call-is-call t b' (k' .sits) events' room' after' answers' c') matter
     in
     record { answered = same .answered; holding = same .holding }
