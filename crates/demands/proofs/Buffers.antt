@@ -177,15 +177,24 @@ pub record Keeps (t b : List ℕ) : Type 0 where
   pub given : Given t (stateOf b)
   pub sits : Sits b
 
+-- a load that gives 0 leaves the state at load
+load-laid : {t b b' : List ℕ} → HostLoad t b 0 b' → b' ≡ bytesOf atLoad
+load-laid {t} {b} h = let done = load-done t b (h .code) in h .state ∙ (rw (done .0, done .1))
+
+pub host-load-is-load : (t b b' : List ℕ) → HostLoad t b 0 b' → stateOf b' ≡ atLoad
+host-load-is-load t b b' h = ap stateOf (load-laid h) ∙ state-back atLoad load-typed
+
+-- the buffer of a state whose numbers fit holds that state
+pub laid-sits : (st : State) → Typed st → Sits (bytesOf st)
+laid-sits st h = record { sized = laid-sized st h; typed = subst Typed (sym (state-back st h)) h }
+
 load-keeps : (t b b' : List ℕ) → HostLoad t b 0 b' → Keeps t b'
 unfolding accepts
 load-keeps t b b' h =
-    let done = load-done t b (h .code) in
-    let laid : b' ≡ bytesOf atLoad = h .state ∙ (rw (done .0, done .1)) in
-    let read : stateOf b' ≡ atLoad = ap stateOf laid ∙ state-back atLoad load-typed in
+    let ok = load-done t b (h .code) .0 in
     record {
-      given = Kernel.byLoad {r = record { verdict = Accepted; state = stateOf b' }} (record { verdict = is-accepted (loadOf t) (done .0); state = read ∙ (rw (done .0)) }) (done .0);
-      sits = record { sized = subst (λ l. isSized l ≡ true) (sym laid) (laid-sized atLoad load-typed); typed = subst Typed (sym read) load-typed };
+      given = Kernel.byLoad {r = record { verdict = Accepted; state = stateOf b' }} (record { verdict = is-accepted (loadOf t) ok; state = host-load-is-load t b b' h ∙ (rw ok) }) ok;
+      sits = subst Sits (sym (load-laid h)) (laid-sits atLoad load-typed);
     }
 
 call-keeps : {t b events room b' answers : List ℕ} → Keeps t b → HostCalled t b events room b' answers → Keeps t b'

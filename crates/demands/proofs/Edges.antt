@@ -1,5 +1,5 @@
 -- P1 to P10 of the public step: each row of the model's one table (`edges`), for any state that shows the row's state and any outcome that meets the
--- contract. Such a state exists for each row.
+-- contract. Such a state exists for each row (`edges-shown`).
 -- Assumes nothing.
 use Prim.Native.Nat.{ℕ}
 use mathlib.Core.Path.{_≡_, refl, sym, _∙_, ap, subst}
@@ -74,10 +74,13 @@ step-ranged t s event room z =
     let fault = ran-fault (listFault (eqb (length event) eventSize) event room (Model.isSound t s)) t s event room z in
     ranged t s (both-right (accepts t) (inRange t s) (not-refused (eqb (length event) eventSize) event room (Model.isSound t s) fault .isSound))
 
+row-ranged : (x : Edge) → Holds x → Ranged (x .tables) (x .state)
+row-ranged x h = step-ranged (x .tables) (x .state) (x .asked) (zeros eventSize) (ap (λ ran. ran .refusal) (h .stepped))
+
 shows : (x : Edge) → Holds x → Shows x (settledAs allZero (x .state))
 unfolding settledAs
 shows x h =
-    let r = step-ranged (x .tables) (x .state) (x .asked) (zeros eventSize) (ap (λ ran. ran .refusal) (h .stepped)) in
+    let r = row-ranged x h in
     record { state = settled-shown (x .tables) (h .accepted) allZero (x .state) r; slots = settled-indexed (x .tables) (x .state .ports) (allZero .numbers) (r .whole) }
 
 pub edges-stepped :
@@ -87,5 +90,13 @@ pub edges-stepped :
     → Gives x r answers
 edges-stepped x m = gives x (holds-at edges-hold x m)
 
-pub edges-shown : (x : Edge) → List·Memᴰ x edges → (st : State) × Shows x st
-edges-shown x m = (settledAs allZero (x .state), shows x (holds-at edges-hold x m))
+-- there is such a state: the row's own, in settled form
+pub edges-shown : (x : Edge) → List·Memᴰ x edges → Shows x (settledAs allZero (x .state))
+edges-shown x m = shows x (holds-at edges-hold x m)
+
+-- the tables of a row are accepted, and its state is in range
+pub edges-accepted : (x : Edge) → List·Memᴰ x edges → accepts (x .tables) ≡ true
+edges-accepted x m = holds-at edges-hold x m .accepted
+
+pub edges-ranged : (x : Edge) → List·Memᴰ x edges → Ranged (x .tables) (x .state)
+edges-ranged x m = row-ranged x (holds-at edges-hold x m)

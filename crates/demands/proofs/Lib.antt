@@ -7,3 +7,4 @@ pub mod Widths
 pub mod Buffers
 pub mod Isolation
 pub mod WrongKernels
+pub mod HostCalls

@@ -25,7 +25,7 @@ use Rattle.ports.proofs.Ports.{ports-length, ports-at}
 use Rattle.settled_form.specs.Settled.{portNumbers, portBytes, settledNumbers, settledBytes}
 use Rattle.settled_form.proofs.Laid.{numbers-length, bytes-length}
 use Rattle.states.specs.declared.State.{State}
-use Rattle.states.specs.Shown.{shownState, settledAs, atLoad}
+use Rattle.states.specs.Shown.{shownState, settledAs, atLoad, allZero}
 use Rattle.state_buffer.proofs.Round.{Typed}
 use Rattle.demands.proofs.Times.{most, Timed}
 
@@ -85,6 +85,19 @@ load-typed =
       window = omega arith;
       time = omega arith;
       modes = length-replicate {A = ℕ} 16 1;
+      rows = length-replicate {A = ℕ} 832 0;
+      numbers = small-zeros 832;
+      bytes = length-replicate {A = ℕ} 32768 0;
+    }
+
+-- the state of zeros
+pub zero-typed : Typed allZero
+unfolding allZero
+zero-typed =
+    record {
+      window = omega arith;
+      time = omega arith;
+      modes = length-replicate {A = ℕ} 16 0;
       rows = length-replicate {A = ℕ} 832 0;
       numbers = small-zeros 832;
       bytes = length-replicate {A = ℕ} 32768 0;
