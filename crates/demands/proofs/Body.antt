@@ -4,7 +4,7 @@
 -- refuses 29, after 27 and 28; no state that the public calls give is such.
 -- Assumes nothing.
 use Prim.Native.Nat.{ℕ, _%_}
-use mathlib.Core.Path.{_≡_, refl, sym, _∙_, ap}
+use mathlib.Core.Path.{_≡_, refl, _∙_, ap}
 use mathlib.Core.Bool.{Bool, true, false, _&&_, false≢true}
 use mathlib.Core.List.{List}
 use lib.Dec.{eqb}
@@ -34,14 +34,25 @@ pub record IsModel (t : Tables) (m : Model.Ran) (r : Ran) (answers : List ℕ) :
   pub state : shownState t (r .state) ≡ m .state
   pub answered : answers ≡ m .buffer
 
--- test 29 of the two agrees where the slots are slots
+-- test 29 of the code is the model's, and that each slot is one
+and-assoc : (a b c : Bool) → (a && (b && c)) ≡ (a && b && c)
+and-assoc true b c = refl
+and-assoc false b c = refl
+
 and-true : (b : Bool) → (b && true) ≡ b
 and-true true = refl
 and-true false = refl
 
-same-sound : (t : Tables) (st : State) → indexed t (st .numbers) ≡ true → isSound t st ≡ Model.isSound t (shownState t st)
+and-false : (b : Bool) → (b && false) ≡ false
+and-false true = refl
+and-false false = refl
+
+pub sound-is-model : (t : Tables) (st : State) → isSound t st ≡ (Model.isSound t (shownState t st) && indexed t (st .numbers))
 unfolding isSound
-same-sound t st i = ap (λ b. accepts t && b) (ap (λ b. inRange t (shownState t st) && b) i ∙ and-true (inRange t (shownState t st)))
+sound-is-model t st = and-assoc (accepts t) (inRange t (shownState t st)) (indexed t (st .numbers))
+
+same-sound : (t : Tables) (st : State) → indexed t (st .numbers) ≡ true → isSound t st ≡ Model.isSound t (shownState t st)
+same-sound t st i = sound-is-model t st ∙ (rw i (and-true (Model.isSound t (shownState t st))))
 
 module _ (t : Tables) (st : State) (events room : List ℕ) {r : Ran} {answers : List ℕ} where
   run-as : (f : ℕ) → f ≡ 0 → isSound t st ≡ true → ListMeets f t st events room r answers → IsModel t (ranOr f t (shownState t st) events room) r answers
@@ -96,13 +107,7 @@ given-indexed t st g = both-right (inRange t (shownState t st)) (indexed t (st .
 
 -- any other state is refused: 27 and 28 where they apply, else 29; the state and every byte of the answers stay
 unindexed : (t : Tables) (st : State) → indexed t (st .numbers) ≡ false → isSound t st ≡ false
-unfolding isSound
-unindexed t st i = rw i (none (accepts t) (inRange t (shownState t st)))
-  where
-    none : (a b : Bool) → (a && (b && false)) ≡ false
-    none true true = refl
-    none true false = refl
-    none false b = refl
+unindexed t st i = sound-is-model t st ∙ (rw i (and-false (Model.isSound t (shownState t st))))
 
 pub record HandsBack (refusal : ℕ) (st : State) (room : List ℕ) (r : Ran) (answers : List ℕ) : Type 0 where
   pub refused : r .refusal ≡ refusal

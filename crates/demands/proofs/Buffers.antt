@@ -14,15 +14,13 @@ use Rattle.model.specs.Words.{if_then_else_, word32}
 use Rattle.model.specs.Tables.{Tables, records, windows}
 use Rattle.model.specs.Load.{Verdict, accepted, refused, fault, firstFault, lengthFault, isAccepted, loadOf, accepts}
 use Rattle.model.specs.Events.{eventSize}
-use Rattle.model.specs.Ranged.{Ranged}
 use Rattle.model.specs.Run.{afterAll, eventsOf, listFault}
-use Rattle.model.proofs.Tests.{both-left, both-right, by-test}
+use Rattle.model.proofs.Tests.{both-left, by-test}
 use Rattle.model.proofs.Searches.{first-is}
 use Rattle.loader.specs.declared.Verdict.the-variants.{Accepted}
 use Rattle.states.specs.declared.State.{State}
 use Rattle.states.specs.Shown.{shownState, isSound, settledAs, atLoad}
-use Rattle.kernel.specs.declared.Ran.{Ran}
-use Rattle.kernel.specs.Meets.{LoadMeets, ListMeets, RunMeets, StepMeets, stateAfter, answersAfter}
+use Rattle.kernel.specs.Meets.{ListMeets, RunMeets, StepMeets, stateAfter}
 use Rattle.kernel.specs.Given.{Given}
 use Rattle.kernel.specs.Given as Kernel
 use Rattle.kernel.proofs.GivenStates.{sound-accepts, after-ranged}
@@ -178,23 +176,23 @@ pub record Keeps (t b : List ℕ) : Type 0 where
   pub sits : Sits b
 
 -- a load that gives 0 leaves the state at load
-load-laid : {t b b' : List ℕ} → HostLoad t b 0 b' → b' ≡ bytesOf atLoad
-load-laid {t} {b} h = let done = load-done t b (h .code) in h .state ∙ (rw (done .0, done .1))
+load-laid : {t b b' : List ℕ} {r : ℕ} → HostLoad t b r b' → r ≡ 0 → b' ≡ bytesOf atLoad
+load-laid {t} {b} h z = let done = load-done t b (sym z ∙ h .code) in h .state ∙ (rw (done .0, done .1))
 
-pub host-load-is-load : (t b b' : List ℕ) → HostLoad t b 0 b' → stateOf b' ≡ atLoad
-host-load-is-load t b b' h = ap stateOf (load-laid h) ∙ state-back atLoad load-typed
+pub host-load-is-load : (t b : List ℕ) (r : ℕ) (b' : List ℕ) → HostLoad t b r b' → r ≡ 0 → stateOf b' ≡ atLoad
+host-load-is-load t b r b' h z = ap stateOf (load-laid h z) ∙ state-back atLoad load-typed
 
 -- the buffer of a state whose numbers fit holds that state
 pub laid-sits : (st : State) → Typed st → Sits (bytesOf st)
 laid-sits st h = record { sized = laid-sized st h; typed = subst Typed (sym (state-back st h)) h }
 
-load-keeps : (t b b' : List ℕ) → HostLoad t b 0 b' → Keeps t b'
+load-keeps : (t b : List ℕ) (r : ℕ) (b' : List ℕ) → HostLoad t b r b' → r ≡ 0 → Keeps t b'
 unfolding accepts
-load-keeps t b b' h =
-    let ok = load-done t b (h .code) .0 in
+load-keeps t b r b' h z =
+    let ok = load-done t b (sym z ∙ h .code) .0 in
     record {
-      given = Kernel.byLoad {r = record { verdict = Accepted; state = stateOf b' }} (record { verdict = is-accepted (loadOf t) ok; state = host-load-is-load t b b' h ∙ (rw ok) }) ok;
-      sits = subst Sits (sym (load-laid h)) (laid-sits atLoad load-typed);
+      given = Kernel.byLoad {r = record { verdict = Accepted; state = stateOf b' }} (record { verdict = is-accepted (loadOf t) ok; state = host-load-is-load t b r b' h z ∙ (rw ok) }) ok;
+      sits = subst Sits (sym (load-laid h z)) (laid-sits atLoad load-typed);
     }
 
 call-keeps : {t b events room b' answers : List ℕ} → Keeps t b → HostCalled t b events room b' answers → Keeps t b'
@@ -204,7 +202,7 @@ call-keeps {t} {b} {events} {room} {b'} {answers} k (byHostStep h) =
     record { given = Kernel.byStep events room answers (k .given) (host-step-is-step t b (k .sits) events room 0 b' answers h) refl; sits = host-step-sits t b (k .sits) events room 0 b' answers h }
 
 pub given-keeps : (t b : List ℕ) → HostGiven t b → Keeps t b
-given-keeps t b' (byLoad {b = b} h) = load-keeps t b b' h
+given-keeps t b' (byLoad {b = b} h) = load-keeps t b _ b' h refl
 given-keeps t b' (byCall {b = b} g c) = call-keeps (given-keeps t b g) c
 
 -- a call that is not refused is the kernel's call, from the state in the buffer

@@ -29,7 +29,7 @@ use Rattle.kernel.specs.declared.Ran.{Ran}
 use Rattle.kernel.specs.Meets.{StepMeets}
 use Rattle.kernel.proofs.GivenStates.{settled-shown}
 use Rattle.demands.proofs.Steps.{not-refused}
-use Rattle.demands.proofs.Body.{IsModel, step-is-model}
+use Rattle.demands.proofs.Body.{step-is-model}
 
 -- what a row asks of an outcome: it is not refused, the state shown is the one that the row leaves, and the 80 bytes are the row's answer
 pub record Gives (x : Edge) (r : Ran) (answers : List ℕ) : Type 0 where

@@ -13,7 +13,6 @@ use lib.ListN.{length, getD, take}
 use borrow.Author.Tests.{ltb-true}
 use Rattle.model.specs.Words.{byte, zeros, allIn}
 use Rattle.model.specs.Tables.{Tables}
-use Rattle.model.specs.Load.{accepts}
 use Rattle.model.specs.State.{Port, fresh, loaded}
 use Rattle.model.specs.Events.{eventSize}
 use Rattle.model.specs.Run.{eventsOf, run, step}
@@ -22,20 +21,19 @@ use Rattle.model.proofs.Tests.{both-left, both-right}
 use Rattle.model.proofs.Computing.{stepping}
 use Rattle.model.proofs.Edges.{Edge, edges}
 use Rattle.state_test.specs.Tested.{indexed}
-use Rattle.states.specs.declared.State.{State}
 use Rattle.states.specs.Shown.{shownState, settledAs, allZero}
 use Rattle.states.proofs.Load.{load-shown}
 use Rattle.kernel.specs.declared.Ran.{Ran}
 use Rattle.state_buffer.specs.Layout.{stateOf, bytesOf}
-use Rattle.state_buffer.proofs.Round.{Typed, state-back}
+use Rattle.state_buffer.proofs.Round.{state-back}
 use Rattle.host.specs.Contracts.{HostLoad, HostRun, HostStep}
-use Rattle.demands.specs.Calls.{HostGiven, byLoad, stateIn}
-use Rattle.demands.proofs.Body.{IsModel, run-is-model, step-is-model, given-indexed}
+use Rattle.demands.specs.Calls.{HostGiven, stateIn}
+use Rattle.demands.proofs.Body.{run-is-model, step-is-model, given-indexed}
 use Rattle.demands.proofs.Edges.{Gives, Shows, edges-stepped, edges-shown, edges-accepted, edges-ranged}
 use Rattle.demands.proofs.Refusals.{recordAt, eventAt, before, DidNothing, run-refused, step-refused}
 use Rattle.demands.proofs.Times.{most, Timed}
 use Rattle.demands.proofs.Widths.{zero-typed, settled-typed}
-use Rattle.demands.proofs.Buffers.{Sits, laid-sits, Keeps, given-keeps, host-load-is-load, host-run-is-run, host-step-is-step}
+use Rattle.demands.proofs.Buffers.{Sits, laid-sits, given-keeps, host-load-is-load, host-run-is-run, host-step-is-step}
 
 -- given buffers: the slots of the state in them are in range
 pub given-sits : (t b : List ℕ) → HostGiven t b → Sits b
@@ -62,8 +60,8 @@ module _ (t b : List ℕ) (sits : Sits b) (slots : indexed t (stateOf b .numbers
       record { refusal = m .refusal; state = m .state; answered = m .answered }
 
 -- an exported load that gives 0 leaves the model's state at load
-pub host-load-is-model : (t b b' : List ℕ) → HostLoad t b 0 b' → stateIn t b' ≡ loaded t
-host-load-is-model t b b' h = ap (shownState t) (host-load-is-load t b b' h) ∙ load-shown t
+pub host-load-is-model : (t b : List ℕ) (r : ℕ) (b' : List ℕ) → HostLoad t b r b' → r ≡ 0 → stateIn t b' ≡ loaded t
+host-load-is-model t b r b' h z = ap (shownState t) (host-load-is-load t b r b' h z) ∙ load-shown t
 
 -- demand 1
 pub host-run-refused :

@@ -18,7 +18,7 @@ use Rattle.kernel.proofs.Isolation.{SameBytes, isolation}
 use Rattle.state_buffer.specs.Layout.{stateOf}
 use Rattle.demands.specs.Calls.{Called, byRun, byStep, HostCalled, HostGiven, stateIn}
 use Rattle.demands.proofs.Steps.{step-is-run, step-length}
-use Rattle.demands.proofs.Buffers.{Keeps, given-keeps, host-call-is-call}
+use Rattle.demands.proofs.Buffers.{given-keeps, host-call-is-call}
 
 -- a call that is not refused is a run
 called-run : {t : Tables} {st : State} {events room : List ℕ} {st' : State} {answers : List ℕ} → Called t st events room st' answers → RunMeets t st events room (record { refusal = 0; state = st' }) answers

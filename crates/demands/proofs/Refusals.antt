@@ -16,7 +16,7 @@ use Rattle.model.specs.Events.{Event, eventSize}
 use Rattle.model.specs.Step.{doer, answer, after}
 use Rattle.model.specs.Run.{answers, afterAll, eventsOf, joined}
 use Rattle.model.proofs.Lists.{answer-length, events-append}
-use Rattle.model.proofs.Refusals.{Refused, refused-changes-nothing}
+use Rattle.model.proofs.Refusals.{refused-changes-nothing}
 use Rattle.states.specs.declared.State.{State}
 use Rattle.states.specs.Shown.{shownState, isSound}
 use Rattle.kernel.specs.declared.Ran.{Ran}

@@ -1,17 +1,16 @@
 -- Times fit 32 bits: the clock's time and each port's arrival time stay below 2^32 through every event.
 -- Assumes nothing.
-use Prim.Native.Nat.{ℕ, zero, suc, _+_, _-_, _<_}
-use mathlib.Core.Path.{_≡_, refl}
-use mathlib.Core.Bool.{Bool, true, false, _&&_, _||_, not}
+use Prim.Native.Nat.{ℕ, zero, suc, _-_, _<_}
+use mathlib.Core.Bool.{_&&_, _||_, not}
 use mathlib.Core.List.{List, [], _∷_}
 use native.Mathlib.Omega.{arith}
 use lib.Dec.{eqb, ltb}
 use lib.ListN.{getD, set}
 use Rattle.model.specs.Tables.{Tables, Row, row, sampling, destinations, destinationPort, sourcePort}
 use Rattle.model.specs.Tables.{ports as portCount}
-use Rattle.model.specs.State.{Message, Port, State, fresh, normal, modeOf, port, withPort, withQueue, isCreated, valid, tick, loaded}
+use Rattle.model.specs.State.{Message, Port, State, fresh, normal, modeOf, port, withPort, withQueue, isCreated, tick}
 use Rattle.model.specs.Events.{Event, Call, need}
-use Rattle.model.specs.Services.{Reply, refuse, done, Served, refuses, serves, atPort, directed, likeRow, made, create, getId, own, put, mark, readOldest, takeOldest, get, cleared, serve, useOwn, withMode, setMode, lookUp, service, schedule, arrived, delivered, transmitOldest, transmit}
+use Rattle.model.specs.Services.{Reply, refuse, done, Served, refuses, serves, atPort, directed, likeRow, made, create, getId, own, put, readOldest, takeOldest, get, cleared, serve, useOwn, withMode, setMode, lookUp, service, schedule, arrived, delivered, transmitOldest, transmit}
 use Rattle.model.specs.Step.{Turn, noTurn, clockTurn, callTurn, moveTurn, turn, replyIn, reply, stateOf, after}
 use Rattle.model.specs.Run.{afterAll}
 use Rattle.model.proofs.Tests.{by-test}

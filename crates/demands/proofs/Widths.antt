@@ -1,7 +1,7 @@
 -- The numbers of a state fit the widths in which the layout keeps them: at load, and in settled form after a list.
 -- Assumes nothing.
 use Prim.Native.Nat.{ℕ, zero, suc, _+_, _*_, _≤_, _<_}
-use mathlib.Core.Path.{_≡_, refl, sym, _∙_, ap}
+use mathlib.Core.Path.{_≡_, refl, sym, _∙_}
 use mathlib.Core.Bool.{Bool, true, false}
 use mathlib.Core.List.{List, [], _∷_, _++_, map}
 use native.Mathlib.Nat.{mul-zero, mul-suc}
@@ -19,7 +19,7 @@ use Rattle.model.specs.State as model
 use Rattle.model.specs.Ranged.{PortRanged, Ranged}
 use Rattle.model.specs.Run.{joined}
 use Rattle.model.proofs.Tests.{both-left, both-right, between-high}
-use Rattle.model.proofs.Accepted.{Accepted, accepted}
+use Rattle.model.proofs.Accepted.{accepted}
 use Rattle.ports.specs.Held.{rowOf, portAt, portsOf}
 use Rattle.ports.proofs.Ports.{ports-length, ports-at}
 use Rattle.settled_form.specs.Settled.{portNumbers, portBytes, settledNumbers, settledBytes}

@@ -2,18 +2,17 @@
 -- Assumes nothing.
 use Prim.Native.Nat.{ℕ, _+_, _*_, _%_, _/_, _<_}
 use mathlib.Core.Path.{_≡_, refl, sym, _∙_, ap}
-use mathlib.Core.Bool.{Bool, true}
+use mathlib.Core.Bool.{true}
 use mathlib.Core.List.{List, [], _∷_, _++_, append-nil}
 use native.Mathlib.Nat.{div-div-eq-div-mul}
 use native.Mathlib.Omega.{arith}
 use lib.Dec.{eqb}
-use lib.ListN.{length, getD, take, drop, replicate, length-append, List·getD-append}
+use lib.ListN.{length, getD, take, drop, length-append, List·getD-append}
 use lib.Seq.{getD-append-add}
-use Rattle.model.specs.Words.{bytes32, zeros}
+use Rattle.model.specs.Words.{zeros}
 use Rattle.model.specs.Tables.{Tables}
 use Rattle.model.specs.Load.{accepts}
 use Rattle.model.specs.State.{loaded}
-use Rattle.model.specs.State as model
 use Rattle.model.specs.Events.{Event, eventSize}
 use Rattle.model.specs.Run.{answers, afterAll, eventsOf, joined, listFault}
 use Rattle.model.proofs.Tests.{both}

@@ -1,7 +1,6 @@
 -- Calls that are not refused, of the kernel and of the exported functions: a run of a list, or a step, which is a run of one event.
 -- Assumes nothing.
 use Prim.Native.Nat.{ℕ}
-use mathlib.Core.Path.{_≡_}
 use mathlib.Core.List.{List}
 use Rattle.model.specs.Tables.{Tables}
 use Rattle.model.specs.State as model
