@@ -1,4 +1,5 @@
--- The wrong kernels of specs/WrongKernels, each shut out by the contract of run on a small worked input: one window of partition 0, from the state at load.
+-- The wrong kernels of specs/WrongKernels, each shut out by the contract of run on a small worked input, from the state at load: two clock steps, and a message
+-- that is sent and counted.
 -- Assumes nothing.
 use Prim.Native.Nat.{ℕ, _+_, _*_, _%_, _/_, _<_}
 use mathlib.Core.Path.{_≡_, refl, sym, _∙_, ap}
@@ -7,12 +8,13 @@ use mathlib.Core.List.{List, [], _∷_, _++_, append-nil}
 use native.Mathlib.Nat.{div-div-eq-div-mul}
 use native.Mathlib.Omega.{arith}
 use lib.Dec.{eqb}
-use lib.ListN.{length, getD, take, drop, length-append, List·getD-append}
+use lib.ListN.{length, getD, take, drop, replicate, length-append, List·getD-append}
 use lib.Seq.{getD-append-add}
 use Rattle.model.specs.Words.{zeros}
 use Rattle.model.specs.Tables.{Tables}
 use Rattle.model.specs.Load.{accepts}
 use Rattle.model.specs.State.{loaded}
+use Rattle.model.specs.State as model
 use Rattle.model.specs.Events.{Event, eventSize}
 use Rattle.model.specs.Run.{answers, afterAll, eventsOf, joined, listFault}
 use Rattle.model.proofs.Tests.{both}
@@ -24,7 +26,7 @@ use Rattle.states.proofs.Load.{load-shown, load-fits}
 use Rattle.kernel.specs.declared.Ran.{Ran}
 use Rattle.kernel.specs.Meets.{RunMeets}
 use Rattle.kernel.proofs.GivenStates.{run-leaves, run-answers}
-use Rattle.demands.specs.WrongKernels.{MeetsOn, right, refusesEverything, constantAnswer, changesNothing, firstThenPrints, telling, inventedNumbers, inventedCounts, inventedTimes}
+use Rattle.demands.specs.WrongKernels.{MeetsOn, Meets, right, refusesEverything, constantAnswer, changesNothing, firstThenPrints, otherRecords, telling, inventedCounts, inventedTimes}
 
 -- from the state at load of accepted tables, a list of whole records with room for its answers is run: what any outcome is
 load-passes : (t : Tables) → accepts t ≡ true → isSound t atLoad ≡ true
@@ -32,12 +34,15 @@ unfolding isSound
 load-passes t ok = both ok (load-fits t ok)
 
 module _ (t : Tables) (ok : accepts t ≡ true) (events room : List ℕ) (runs : listFault (eqb (length events % eventSize) 0) events room true ≡ 0) where
-  not-refused : listFault (eqb (length events % eventSize) 0) events room (isSound t atLoad) ≡ 0
-  not-refused = ap (listFault (eqb (length events % eventSize) 0) events room) (load-passes t ok) ∙ runs
+  list-runs : listFault (eqb (length events % eventSize) 0) events room (isSound t atLoad) ≡ 0
+  list-runs = ap (listFault (eqb (length events % eventSize) 0) events room) (load-passes t ok) ∙ runs
+
+  others-are : (records : Tables → model.State → List Event → List (List ℕ)) → otherRecords records t atLoad events room .answers ≡ joined (records t (loaded t) (eventsOf events)) ++ drop (length events) room
+  others-are records = rw list-runs (ap (λ s. joined (records t s (eventsOf events)) ++ drop (length events) room) (load-shown t))
 
   module _ {r : Ran} {answers' : List ℕ} (m : RunMeets t atLoad events room r answers') where
     refusal-is : r .refusal ≡ 0
-    refusal-is = m .refusal ∙ not-refused
+    refusal-is = m .refusal ∙ list-runs
 
     shown-is : shownState t (r .state) ≡ afterAll t (loaded t) (eventsOf events)
     shown-is = run-leaves (load-passes t ok) m refusal-is ∙ ap (λ s. afterAll t s (eventsOf events)) (load-shown t)
@@ -90,7 +95,7 @@ changes-nothing m =
     omega arith
 
 -- the right kernel meets it on every input
-pub right-meets : (t : Tables) (st : State) (events room : List ℕ) → MeetsOn right t st events room
+pub right-meets : Meets right
 right-meets t st events room = record { refusal = refl; state = refl; answered = refl }
 
 one-runs : listFault (eqb (length (take eventSize twoClocks) % eventSize) 0) (take eventSize twoClocks) clockRoom true ≡ 0
@@ -119,9 +124,15 @@ twice c both long same =
     ∙ ap (λ l. getD l 84 0) same
 
 pub constant-answer : (c : List ℕ) → MeetsOn (constantAnswer c) clockTables atLoad twoClocks clockRoom → ⊥
+unfolding eventsOf
 constant-answer c m =
     let bare : (c ++ (c ++ [])) ++ [] ≡ c ++ c = append-nil (c ++ (c ++ [])) ∙ ap (λ l. c ++ l) (append-nil c) in
-    let no : _≡_ {A = ℕ} 10 20 = twice c clockTold refl (sym bare ∙ answers-are clockTables clock-accepted twoClocks clockRoom clock-runs m ∙ clock-told) in
+    let both =
+    sym (others-are clockTables clock-accepted twoClocks clockRoom clock-runs (λ t s es. replicate (length es) c))
+    ∙ answers-are clockTables clock-accepted twoClocks clockRoom clock-runs m
+    ∙ clock-told
+    in
+    let no : _≡_ {A = ℕ} 10 20 = twice c clockTold refl (sym bare ∙ both) in
     omega arith
 
 -- a number of 32 bits is told by its four bytes
@@ -135,17 +146,12 @@ parts n small =
 digits : (n k : ℕ) → n < 4294967296 → n % 256 ≡ k → n / 256 % 256 ≡ 0 → n / 65536 % 256 ≡ 0 → n / 16777216 % 256 ≡ 0 → n ≡ k
 digits n k small a b c d = parts n small ∙ (rw (a, b, c, d) (omega arith))
 
--- the answers that a kernel of invented numbers gives from the state at load
-invented-are : (code : ℕ) (f : ℕ → ℕ) (t : Tables) (events room : List ℕ)
-    → inventedNumbers code f t atLoad events room .answers ≡ joined (telling code f (eventsOf events) (answers t (loaded t) (eventsOf events))) ++ drop (length events) room
-invented-are code f t events room = ap (λ s. joined (telling code f (eventsOf events) (answers t s (eventsOf events))) ++ drop (length events) room) (load-shown t)
-
 -- any rule that gives numbers of 32 bits and another time than 10, or another than 20
 pub invented-times : (f : ℕ → ℕ) → ((x : ℕ) → f x < 4294967296) → (f 10 ≡ 10 → f 20 ≡ 20 → ⊥) → MeetsOn (inventedTimes f) clockTables atLoad twoClocks clockRoom → ⊥
 unfolding computing
 invented-times f small other m =
     let same : joined (telling 13 f (eventsOf twoClocks) (answers clockTables (loaded clockTables) (eventsOf twoClocks))) ++ drop (length twoClocks) clockRoom ≡ clockTold =
-    sym (invented-are 13 f clockTables twoClocks clockRoom) ∙ answers-are clockTables clock-accepted twoClocks clockRoom clock-runs m ∙ clock-told
+    sym (others-are clockTables clock-accepted twoClocks clockRoom clock-runs (λ t s es. telling 13 f es (answers t s es))) ∙ answers-are clockTables clock-accepted twoClocks clockRoom clock-runs m ∙ clock-told
     in
     let at : (i : ℕ) → getD (joined (telling 13 f (eventsOf twoClocks) (answers clockTables (loaded clockTables) (eventsOf twoClocks))) ++ drop (length twoClocks) clockRoom) i 0 ≡ getD clockTold i 0 = λ i. ap (λ l. getD l i 0) same in
     other (digits (f 10) 10 (small 10) (at 4) (at 5) (at 6) (at 7)) (digits (f 20) 20 (small 20) (at 84) (at 85) (at 86) (at 87))
@@ -197,7 +203,7 @@ pub invented-counts : (f : ℕ → ℕ) → ((x : ℕ) → f x < 4294967296) →
 unfolding computing
 invented-counts f small other m =
     let same : joined (telling 10 f (eventsOf sendAndCount) (answers countTables (loaded countTables) (eventsOf sendAndCount))) ++ drop (length sendAndCount) countRoom ≡ allTold =
-    sym (invented-are 10 f countTables sendAndCount countRoom) ∙ answers-are countTables count-accepted sendAndCount countRoom count-runs m ∙ count-told
+    sym (others-are countTables count-accepted sendAndCount countRoom count-runs (λ t s es. telling 10 f es (answers t s es))) ∙ answers-are countTables count-accepted sendAndCount countRoom count-runs m ∙ count-told
     in
     let at : (i : ℕ) → getD (joined (telling 10 f (eventsOf sendAndCount) (answers countTables (loaded countTables) (eventsOf sendAndCount))) ++ drop (length sendAndCount) countRoom) i 0 ≡ getD allTold i 0 = λ i. ap (λ l. getD l i 0) same in
     other (digits (f 0) 0 (small 0) (at 164) (at 165) (at 166) (at 167)) (digits (f 1) 1 (small 1) (at 564) (at 565) (at 566) (at 567))
