@@ -9,13 +9,13 @@ use mathlib.Core.List.{List, _++_}
 use native.Mathlib.Omega.{arith}
 use lib.Dec.{eqb, ltb}
 use lib.ListN.{length, getD, length-append, List·getD-eq-default}
-use borrow.Author.Tests.{eqb-true, eq-eqb, ltb-true, ltb-false}
+use borrow.Author.Tests.{eq-eqb, ltb-true, ltb-false}
 use Rattle.model.specs.Words.{if_then_else_, word32}
 use Rattle.model.specs.Tables.{Tables, records, windows}
 use Rattle.model.specs.Load.{Verdict, accepted, refused, fault, firstFault, lengthFault, isAccepted, loadOf, accepts}
 use Rattle.model.specs.Events.{eventSize}
 use Rattle.model.specs.Run.{afterAll, eventsOf, listFault}
-use Rattle.model.proofs.Tests.{both-left, by-test}
+use Rattle.model.proofs.Tests.{by-test}
 use Rattle.model.proofs.Searches.{first-is}
 use Rattle.loader.specs.declared.Verdict.the-variants.{Accepted}
 use Rattle.states.specs.declared.State.{State}
@@ -23,7 +23,6 @@ use Rattle.states.specs.Shown.{shownState, isSound, settledAs, atLoad}
 use Rattle.kernel.specs.Meets.{ListMeets, RunMeets, StepMeets, stateAfter}
 use Rattle.kernel.specs.Given.{Given}
 use Rattle.kernel.specs.Given as Kernel
-use Rattle.kernel.proofs.GivenStates.{sound-accepts, after-ranged}
 use Rattle.state_buffer.specs.Layout.{stateSize, numbersFrom, bytesOfAll, stateOf, bytesOf}
 use Rattle.state_buffer.proofs.Laws.{numbers-length, numbers-at, all-length, part-long}
 use Rattle.state_buffer.proofs.Round.{Typed, state-back}
@@ -31,8 +30,7 @@ use Rattle.host.specs.Contracts.{isSized, numberIn, loadCode, bufferSound, buff
 use Rattle.host.proofs.Calls.{sound-as}
 use Rattle.demands.specs.Calls.{Called, byRun, byStep, HostCalled, byHostRun, byHostStep, HostGiven, byLoad, byCall}
 use Rattle.demands.proofs.Steps.{not-refused}
-use Rattle.demands.proofs.Times.{all-timed}
-use Rattle.demands.proofs.Widths.{load-typed, settled-typed, shown-timed}
+use Rattle.demands.proofs.Widths.{load-typed, after-typed, given-typed}
 
 -- any buffer of bytes that has a state's size holds numbers that fit
 pub bytes-typed : (b : List ℕ) → length b ≡ stateSize → ((i : ℕ) → getD b i 0 < 256) → Typed (stateOf b)
@@ -63,37 +61,31 @@ laid-sized st h =
     eq-eqb (length (bytesOf st)) stateSize
     (omega (arith, h .modes, h .rows, h .bytes, length-append (st .modes) (bytesOfAll (st .numbers) ++ st .bytes), length-append (bytesOfAll (st .numbers)) (st .bytes), all-length (st .numbers)))
 
+-- a state that the public calls give, laid into a buffer and read again, is that state
+pub given-back : (t : Tables) (st : State) → Given t st → stateOf (bytesOf st) ≡ st
+given-back t st g = state-back st (given-typed t st g)
+
 -- ---- a call on a list
 
 module _ (t b : List ℕ) (typed : Typed (stateOf b)) (events : List ℕ) where
-  settled-fits : isSound t (stateOf b) ≡ true → Typed (settledAs (stateOf b) (afterAll t (shownState t (stateOf b)) (eventsOf events)))
-  settled-fits sound =
-      settled-typed t (sound-accepts t (stateOf b) sound) (stateOf b) typed (afterAll t (shownState t (stateOf b)) (eventsOf events))
-      (after-ranged t (stateOf b) sound events) (all-timed t (shownState t (stateOf b)) (shown-timed t (stateOf b) typed) (eventsOf events))
-
-  -- the state after the list fits, and is what is read from the buffer after it
+  -- the state after the list is what is read from the buffer after it, which has a state's size
   module _ (fault : ℕ) (sound : fault ≡ 0 → isSound t (stateOf b) ≡ true) where
-    ran : (eqb fault 0 && not (eqb (length events) 0)) ≡ true → isSound t (stateOf b) ≡ true
-    ran e = sound (eqb-true fault 0 (both-left (eqb fault 0) (not (eqb (length events) 0)) e))
-
-    after-fits : Typed (stateAfter fault t (stateOf b) events)
-    unfolding stateAfter
-    after-fits = by-test Typed (eqb fault 0 && not (eqb (length events) 0)) (λ e. settled-fits (ran e)) (λ e. typed)
-
     read-back : stateOf (bufferOr fault events b (stateAfter fault t (stateOf b) events)) ≡ stateAfter fault t (stateOf b) events
     unfolding stateAfter bufferOr
-    read-back = go (eqb fault 0 && not (eqb (length events) 0)) (λ e. settled-fits (ran e))
+    read-back = go (eqb fault 0 && not (eqb (length events) 0)) (after-typed t (stateOf b) typed events fault sound)
       where
         after : State
         after = settledAs (stateOf b) (afterAll t (shownState t (stateOf b)) (eventsOf events))
 
-        go : (c : Bool) → (c ≡ true → Typed after) → stateOf (if c then bytesOf (if c then after else stateOf b) else b) ≡ (if c then after else stateOf b)
-        go true fits = state-back after (fits refl)
+        go : (c : Bool) → Typed (if c then after else stateOf b) → stateOf (if c then bytesOf (if c then after else stateOf b) else b) ≡ (if c then after else stateOf b)
+        go true fits = state-back after fits
         go false fits = refl
 
     after-sized : isSized b ≡ true → isSized (bufferOr fault events b (stateAfter fault t (stateOf b) events)) ≡ true
     unfolding bufferOr
-    after-sized sized = by-test (λ (l : List ℕ). isSized l ≡ true) (eqb fault 0 && not (eqb (length events) 0)) (λ e. laid-sized (stateAfter fault t (stateOf b) events) after-fits) (λ e. sized)
+    after-sized sized =
+        by-test (λ (l : List ℕ). isSized l ≡ true) (eqb fault 0 && not (eqb (length events) 0))
+        (λ e. laid-sized (stateAfter fault t (stateOf b) events) (after-typed t (stateOf b) typed events fault sound)) (λ e. sized)
 
   module _ (sized : isSized b ≡ true) (whole : Bool) (room : List ℕ) {r : ℕ} {b' answers : List ℕ} (h : HostList (listFault whole events room (bufferSound t b)) t b events room r b' answers) where
     called : HostList (listFault whole events room (isSound t (stateOf b))) t b events room r b' answers
@@ -109,7 +101,7 @@ module _ (t b : List ℕ) (typed : Typed (stateOf b)) (events : List ℕ) where
     list-is-kernel = record { refusal = called .refusal; state = list-read; answered = called .answered }
 
     list-fits : Typed (stateOf b')
-    list-fits = subst Typed (sym list-read) (after-fits (listFault whole events room (isSound t (stateOf b))) sound)
+    list-fits = subst Typed (sym list-read) (after-typed t (stateOf b) typed events (listFault whole events room (isSound t (stateOf b))) sound)
 
     list-sized : isSized b' ≡ true
     list-sized = subst (λ l. isSized l ≡ true) (sym (called .state)) (after-sized (listFault whole events room (isSound t (stateOf b))) sound sized)

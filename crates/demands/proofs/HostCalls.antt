@@ -1,6 +1,7 @@
--- Demands 1 and 2 of what hosts link. On a buffer of a state's size, an exported run or step is the model's: its refusal, the state in the buffer afterwards and
--- every byte of the answers. So P1 to P10 hold of the exported step, and an event that is not answered 0 changes no state and tells code and doer alone.
--- Every buffer that the exported functions give, and every other buffer of bytes of a state's size, is such a buffer (`given-sits`, `bytes-sit`).
+-- Demands 1 and 2 of what hosts link. On a buffer of a state's size with its slots in range, an exported run or step is the model's: its refusal, the state in
+-- the buffer afterwards and every byte of the answers. So P1 to P10 hold of the exported step, and an event that is not answered 0 changes no state and
+-- tells code and doer alone. Every buffer that the exported functions give is such a buffer (`given-sits`, `given-slots`); of others, every one whose
+-- elements are bytes has its numbers as the layout keeps them (`bytes-sit`).
 -- Assumes nothing.
 use Prim.Native.Nat.{ℕ, zero, suc, _<_}
 use mathlib.Core.Path.{_≡_, refl, sym, _∙_, ap, subst}

@@ -1,15 +1,16 @@
--- The numbers of a state fit the widths in which the layout keeps them: at load, and in settled form after a list.
+-- The numbers of a state fit the widths in which the layout keeps them: at load, after a list, and so in each state that the public calls give. Such a state,
+-- laid into a buffer and read again, is that state (`state-back`, state_buffer/proofs/Round).
 -- Assumes nothing.
-use Prim.Native.Nat.{ℕ, zero, suc, _+_, _*_, _≤_, _<_}
-use mathlib.Core.Path.{_≡_, refl, sym, _∙_}
-use mathlib.Core.Bool.{Bool, true, false}
+use Prim.Native.Nat.{ℕ, zero, suc, _+_, _*_, _%_, _≤_, _<_}
+use mathlib.Core.Path.{_≡_, refl, sym, _∙_, subst}
+use mathlib.Core.Bool.{Bool, true, false, _&&_, not}
 use mathlib.Core.List.{List, [], _∷_, _++_, map}
 use native.Mathlib.Nat.{mul-zero, mul-suc}
 use native.Mathlib.Omega.{arith}
-use lib.Dec.{ltb}
+use lib.Dec.{ltb, eqb}
 use lib.ListN.{List·getD-eq-default, length, getD, take, drop, length-append, length-drop, length-replicate}
 use lib.Seq.{getD-drop}
-use borrow.Author.Tests.{ltb-true, ltb-false}
+use borrow.Author.Tests.{ltb-true, ltb-false, eqb-true}
 use Rattle.model.specs.Words.{zeros, allIn}
 use Rattle.model.specs.Tables.{Tables, Row, row}
 use Rattle.model.specs.Tables.{ports as portCount}
@@ -17,17 +18,22 @@ use Rattle.model.specs.Load.{accepts}
 use Rattle.model.specs.State.{Message, Port, fresh, port, fits}
 use Rattle.model.specs.State as model
 use Rattle.model.specs.Ranged.{PortRanged, Ranged}
-use Rattle.model.specs.Run.{joined}
-use Rattle.model.proofs.Tests.{both-left, both-right, between-high}
+use Rattle.model.specs.Events.{eventSize}
+use Rattle.model.specs.Run.{afterAll, eventsOf, joined}
+use Rattle.model.proofs.Tests.{both-left, both-right, between-high, by-test}
 use Rattle.model.proofs.Accepted.{accepted}
 use Rattle.ports.specs.Held.{rowOf, portAt, portsOf}
 use Rattle.ports.proofs.Ports.{ports-length, ports-at}
 use Rattle.settled_form.specs.Settled.{portNumbers, portBytes, settledNumbers, settledBytes}
 use Rattle.settled_form.proofs.Laid.{numbers-length, bytes-length}
 use Rattle.states.specs.declared.State.{State}
-use Rattle.states.specs.Shown.{shownState, settledAs, atLoad, allZero}
+use Rattle.states.specs.Shown.{shownState, isSound, settledAs, atLoad, allZero}
+use Rattle.kernel.specs.Meets.{stateAfter}
+use Rattle.kernel.specs.Given.{Given, byLoad, byStep, byRun}
+use Rattle.kernel.proofs.GivenStates.{sound-accepts, after-ranged}
 use Rattle.state_buffer.proofs.Round.{Typed}
-use Rattle.demands.proofs.Times.{most, Timed}
+use Rattle.demands.proofs.Steps.{not-refused}
+use Rattle.demands.proofs.Times.{most, Timed, all-timed}
 
 -- each number of a list fits 32 bits
 abbrev Small : List ℕ → Type 0
@@ -146,3 +152,24 @@ shown-timed t st h = record { time = h .time; arrivals = λ k. at k (ltb k n) re
     at k false e =
         let past : length ps ≤ k = omega (arith, ports-length (st .numbers) (st .bytes) n, ltb-false k n e) in
         rw (List·getD-eq-default ps fresh past) (omega arith)
+
+-- the state after a call on a list, from a state that fits
+module _ (t : Tables) (st : State) (typed : Typed st) (events : List ℕ) where
+  run-typed : isSound t st ≡ true → Typed (settledAs st (afterAll t (shownState t st) (eventsOf events)))
+  run-typed sound =
+      settled-typed t (sound-accepts t st sound) st typed (afterAll t (shownState t st) (eventsOf events)) (after-ranged t st sound events)
+      (all-timed t (shownState t st) (shown-timed t st typed) (eventsOf events))
+
+  pub after-typed : (fault : ℕ) → (fault ≡ 0 → isSound t st ≡ true) → Typed (stateAfter fault t st events)
+  unfolding stateAfter
+  after-typed fault sound =
+      by-test Typed (eqb fault 0 && not (eqb (length events) 0))
+      (λ e. run-typed (sound (eqb-true fault 0 (both-left (eqb fault 0) (not (eqb (length events) 0)) e)))) (λ e. typed)
+
+-- each state that the public calls give fits
+pub given-typed : (t : Tables) (st : State) → Given t st → Typed st
+given-typed t st (byLoad m ok) = subst Typed (sym (m .state ∙ (rw ok))) load-typed
+given-typed t st (byStep {st = s} event room answers g m z) =
+    subst Typed (sym (m .state)) (after-typed t s (given-typed t s g) event _ (λ e. not-refused (eqb (length event) eventSize) event room (isSound t s) e .isSound))
+given-typed t st (byRun {st = s} events room answers g m z) =
+    subst Typed (sym (m .state)) (after-typed t s (given-typed t s g) events _ (λ e. not-refused (eqb (length events % eventSize) 0) events room (isSound t s) e .isSound))
