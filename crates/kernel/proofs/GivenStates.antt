@@ -63,18 +63,18 @@ module _ (t : Tables) (ok : accepts t ≡ true) (st : State) (s : model.State) (
   settled-sound = both ok (both (ap (inRange t) settled-shown ∙ in-range t s r) (settled-indexed t (s .ports) (st .numbers) (r .whole)))
 
 -- a state that passes test 29 shows a state in range
-sound-accepts : (t : Tables) (st : State) → isSound t st ≡ true → accepts t ≡ true
+pub sound-accepts : (t : Tables) (st : State) → isSound t st ≡ true → accepts t ≡ true
 unfolding isSound
 sound-accepts t st h = both-left (accepts t) (stateFits t st) h
 
-sound-ranged : (t : Tables) (st : State) → isSound t st ≡ true → Ranged t (shownState t st)
+pub sound-ranged : (t : Tables) (st : State) → isSound t st ≡ true → Ranged t (shownState t st)
 unfolding isSound
 sound-ranged t st h =
     ranged t (shownState t st) (both-left (inRange t (shownState t st)) (indexed t (st .numbers)) (both-right (accepts t) (stateFits t st) h))
 
 -- a call on a list that is not refused, from a state that passes test 29
 module _ (t : Tables) (st : State) (sound : isSound t st ≡ true) (events : List ℕ) where
-  after-ranged : Ranged t (afterAll t (shownState t st) (eventsOf events))
+  pub after-ranged : Ranged t (afterAll t (shownState t st) (eventsOf events))
   after-ranged = all-ranged t (accepted t (sound-accepts t st sound)) (shownState t st) (sound-ranged t st sound) (eventsOf events) (events-sized events)
 
   no-events : length events ≡ 0 → afterAll t (shownState t st) (eventsOf events) ≡ shownState t st
