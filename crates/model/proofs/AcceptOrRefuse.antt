@@ -60,6 +60,7 @@ abbrev kinds : List Case
 kinds =
     window then set window 0 4 gets refused 21 1
     ∷ window then set window 0 0 gets refused 21 1
+    ∷ set window 0 0 gets refused 21 0
     ∷ window then from then window gets refused 21 2
     ∷ window then from then to 4 B then channelRow 1 (2 ∷ []) then portRow 2 0 0 4 0 0 A gets refused 21 4
     ∷ window then from gets accepted

@@ -74,7 +74,8 @@ createRows =
     ∷ event 1 0 0 0 5 S gets code 4 0  -- another largest message
     ∷ event 1 0 0 0x01000000 4 S gets code 4 0  -- another refresh, by its high byte
     ∷ event 1 0 0 0 4 Q gets code 4 0  -- a name of the other mode
-    ∷ event 1 0 0 0 4 X gets code 4 0  -- a name of another's
+    ∷ event 1 0 0 0 4 X gets code 4 0  -- a name of another's, in either mode
+    ∷ event 6 0 0 1 4 X gets code 4 0
     ∷ event 4 0 0 0 0 S gets code 4 0  -- not created yet
     ∷ event 2 0 1 0 1 (64 ∷ []) gets code 3 0
     ∷ event 1 0 0 0 4 S gets answerRow 0 0 1 0 0 0 0 0 []
