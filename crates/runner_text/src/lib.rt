@@ -5,7 +5,6 @@ mod records;
 mod refusals;
 
 use events::EVENT_SIZE;
-pub use records::line;
 pub use records::lines;
 pub use refusals::events_refused;
 pub use refusals::tables_refused;
