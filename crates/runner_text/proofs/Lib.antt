@@ -3,4 +3,5 @@ pub mod Laws
 pub mod Handed
 pub mod Said
 pub mod Long
+pub mod Turns
 pub mod Examples
