@@ -1,6 +1,6 @@
 -- One text after another is one text. Assumes nothing.
 use Prim.Native.Nat.{ℕ, zero, suc, _+_, _-_, _*_, _/_, _%_, _≤_, _<_}
-use mathlib.Core.Path.{_≡_, refl, sym, ap, _∙_, subst}
+use mathlib.Core.Path.{_≡_, refl, sym, ap, ap₂, _∙_, subst}
 use mathlib.Core.List.{List, [], _∷_, _++_, append-assoc}
 use native.Mathlib.Nat.{add-assoc, add-zero}
 use native.Mathlib.Numerals.{add-one, sub-one}
@@ -74,6 +74,11 @@ wrote-then {m} {n} {xs} {ys} {out} {out'} {out''} {at} {mid} {next} fits f g =
           ∙ ap (λ k. put (put out at xs) k ys) (f .after)
           ∙ put-put out at xs ys (omega (arith, f .after, f .within));
     }
+
+-- what was written from the start of the bytes on
+pub wrote-text : {m next : ℕ} {text out out' : List ℕ} → Wrote m text out 0 next out' → take next out' ≡ text
+unfolding put
+wrote-text {m} {next} {text} {out} f = ap₂ take (f .after) (f .laid) ∙ take-at text (drop (0 + length text) out) (0 + length text) (omega arith)
 
 -- the same promise in other words
 pub wrote-as : {m n : ℕ} {xs ys out out' : List ℕ} {at next : ℕ} → m ≤ n → xs ≡ ys → Wrote m xs out at next out' → Wrote n ys out at next out'

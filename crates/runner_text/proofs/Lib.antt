@@ -4,4 +4,6 @@ pub mod Handed
 pub mod Said
 pub mod Long
 pub mod Turns
+pub mod Answered
+pub mod Printed
 pub mod Examples

@@ -8,7 +8,7 @@ use native.Mathlib.Nat.{add-assoc, add-zero, add-suc}
 use native.Mathlib.Omega.{arith}
 use lib.Dec.{eqb}
 use lib.ListN.{length, take, drop, length-append, length-take, length-drop, take-append-drop}
-use lib.Seq.{take-append-le, drop-append-le, drop-append-add, take-all}
+use lib.Seq.{length-take-le, take-append-le, drop-append-le, drop-append-add, take-all}
 use borrow.Author.Tests.{eqb-true, eqb-false}
 use Rattle.model.specs.Words.{cut}
 use Rattle.model.specs.Tables.{Tables}
@@ -42,9 +42,12 @@ lines-same first a a' c c' (suc n) events replies =
     (ap₂ (line (first + n)) (events n (omega arith)) (replies n (omega arith)))
 
 -- bytes after those of the records do not matter
-pub lines-front : (first : ℕ) (a b c d : List ℕ) (n : ℕ) → 80 * n ≤ length a → 80 * n ≤ length c → lines first (a ++ b) (c ++ d) n ≡ lines first a c n
+lines-front : (first : ℕ) (a b c d : List ℕ) (n : ℕ) → 80 * n ≤ length a → 80 * n ≤ length c → lines first (a ++ b) (c ++ d) n ≡ lines first a c n
 lines-front first a b c d n events replies =
     lines-same first (a ++ b) a (c ++ d) c n (λ i h. record-front a b i (omega arith)) (λ i h. record-front c d i (omega arith))
+
+pub lines-answers : (first : ℕ) (a c d : List ℕ) (n : ℕ) → 80 * n ≤ length c → lines first a (c ++ d) n ≡ lines first a c n
+lines-answers first a c d n replies = lines-same first a a (c ++ d) c n (λ i h. refl) (λ i h. record-front c d i (omega arith))
 
 -- the lines of lists joined are lines after lines
 module _ (first : ℕ) (a b c d : List ℕ) (n : ℕ) (events : length a ≡ 80 * n) (replies : length c ≡ 80 * n) where
@@ -104,8 +107,50 @@ module _ (t : Tables) (s : State) (first : ℕ) (a b : List ℕ) (whole : length
   unfolding textFrom
   text-whole = ap (λ n. linesFrom t s first a ++ tornText n) whole ∙ append-nil (linesFrom t s first a)
 
+-- an input is its whole records, and then its broken tail
+module _ (t : Tables) (s : State) (first : ℕ) where
+  broken-text : (b : List ℕ) → length b < 80 → textFrom t s first b ≡ tornText (length b)
+  unfolding textFrom linesFrom
+  broken-text b short =
+      let none : length b / 80 ≡ 0 = omega arith in
+      let all : length b % 80 ≡ length b = omega arith in
+      ap₂ (λ n k. lines first b (joined (answers t s (eventsOf b))) n ++ tornText k) none all
+
+broken-events : (b : List ℕ) → length b < 80 → eventsOf b ≡ []
+unfolding eventsOf
+broken-events b short =
+    let none : length b / 80 ≡ 0 = omega arith in
+    ap (λ n. cut 80 n b) none
+
+module _ (input : List ℕ) where
+  abbrev wholeRecords : List ℕ
+  wholeRecords = take (80 * (length input / 80)) input
+
+  whole-length : length wholeRecords ≡ 80 * (length input / 80)
+  whole-length = length-take-le (80 * (length input / 80)) input (omega arith)
+
+  broken-length : length (drop (80 * (length input / 80)) input) ≡ length input % 80
+  broken-length = length-drop (80 * (length input / 80)) input ∙ omega arith
+
+  pub events-whole : eventsOf wholeRecords ≡ eventsOf input
+  events-whole =
+      let rest = drop (80 * (length input / 80)) input in
+      sym
+      (ap eventsOf (sym (take-append-drop (80 * (length input / 80)) input))
+      ∙ events-append wholeRecords rest (omega (arith, whole-length))
+      ∙ ap (λ es. eventsOf wholeRecords ++ es) (broken-events rest (omega (arith, broken-length)))
+      ∙ append-nil (eventsOf wholeRecords))
+
+  pub text-split : (t : Tables) (s : State) (first : ℕ) → textFrom t s first input ≡ linesFrom t s first wholeRecords ++ tornText (length input % 80)
+  text-split t s first =
+      let rest = drop (80 * (length input / 80)) input in
+      ap (textFrom t s first) (sym (take-append-drop (80 * (length input / 80)) input))
+      ∙ text-append t s first wholeRecords rest (omega (arith, whole-length))
+      ∙ ap (λ l. linesFrom t s first wholeRecords ++ l)
+      (broken-text t (afterAll t s (eventsOf wholeRecords)) (first + length wholeRecords / 80) rest (omega (arith, broken-length)) ∙ ap tornText broken-length)
+
 -- a turn whose read was full, and the text of what comes after it
-turn-full : (t : Tables) (s : State) (turns : ℕ) (read rest : List ℕ) → length read ≡ 32000 → {text : List ℕ} → text ≡ textFrom t (afterAll t s (eventsOf read)) (400 * suc turns) rest
+pub turn-full : (t : Tables) (s : State) (turns : ℕ) (read rest : List ℕ) → length read ≡ 32000 → {text : List ℕ} → text ≡ textFrom t (afterAll t s (eventsOf read)) (400 * suc turns) rest
     → textFrom t s (400 * turns) read ++ text ≡ textFrom t s (400 * turns) (read ++ rest)
 turn-full t s turns read rest long {text} told =
     let whole : length read % 80 ≡ 0 = omega arith in

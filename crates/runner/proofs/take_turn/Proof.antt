@@ -1,60 +1,57 @@
--- `runner::take_turn` is safe: what is read lies within the array. Assumes nothing.
-use mathlib.Core.Path.{sym}
-use Prim.Native.Nat.{ℕ}
-use lib.ListN.{length-take, length-replicate}
-use lib.Seq.{length-take-le}
-use native.Mathlib.Omega.{arith}
 use borrow.Author.Needs.{needs}
 use Rattle.runner.proofs.take_turn.Statement.{statement}
 use Rattle.runner.proofs.take_turn.Tie as tie
 use Rattle.runner.proofs.take_turn.Reads as reads
 use Rattle.runner.proofs.take_turn.Lts as lts
 use Rattle.io.proofs.read_full.Reads as read-full-reads
-use Rattle.runner_text.proofs.split.Reads as split-reads
-use Rattle.runner.proofs.answer_events.Reads as answer-events-reads
-use Rattle.runner.proofs.print_torn.Reads as print-torn-reads
+use Rattle.runner.proofs.print.Reads as print-reads
+use Rattle.runner_text.proofs.turn_text.Reads as turn-text-reads
 
--- the points on the way: from each the one before it that an answer names
-abbrev from-read-full : tie.After-read-full → tie.Start
-from-read-full c = c .before .before .before
-
-abbrev from-events3 : tie.After-events3 → tie.After-read-full
-from-events3 c = c .before .before .before
-
+-- src/main.rt:94:43
 slice-aggregate-read-full : tie.Need-slice-aggregate-read-full
 slice-aggregate-read-full c = search needs
 
+-- src/main.rt:94:9
 read-full-requires : tie.Need-read-full-requires
 read-full-requires c κs = search needs
 
-split-requires : tie.Need-split-requires
-split-requires c κs = search needs
+-- src/main.rt:96:51
+mul-turn-text : tie.Need-mul-turn-text
+mul-turn-text c = search needs
 
-mul-end : tie.Need-mul-end
-mul-end c = search needs
-
-mul-answer-events : tie.Need-mul-answer-events
-mul-answer-events c = search needs
-
+-- src/main.rt:96:65
 array-share-prefix-events : tie.Need-array-share-prefix-events
 array-share-prefix-events c = search needs
 
-slice-aggregate-answer-events : tie.Need-slice-aggregate-answer-events
-slice-aggregate-answer-events c = sym (length-take-le _ _ (search needs))
+-- src/main.rt:96:65
+slice-aggregate-turn-text : tie.Need-slice-aggregate-turn-text
+slice-aggregate-turn-text c = search needs
 
-answer-events-requires : tie.Need-answer-events-requires
-answer-events-requires c κs =
-    let at-read-full = from-events3 c in
-    let s = from-read-full at-read-full in
-    let r = at-read-full .read-full in
-    (simp length-take (omega (arith, r .kept .1 .0, length-replicate {A = ℕ} 32000 0)), omega (arith, s .pre))
+-- src/main.rt:96:81
+slice-aggregate-turn-text-2 : tie.Need-slice-aggregate-turn-text-2
+slice-aggregate-turn-text-2 c = search needs
 
-print-torn-requires : tie.Need-print-torn-requires
-print-torn-requires c κs = search needs
+-- src/main.rt:96:9
+turn-text-requires : tie.Need-turn-text-requires
+turn-text-requires c κs = ?
 
+-- src/main.rt:98:28
+array-share-prefix-text : tie.Need-array-share-prefix-text
+array-share-prefix-text c = ?
+
+-- src/main.rt:98:28
+slice-aggregate-print : tie.Need-slice-aggregate-print
+slice-aggregate-print c = ?
+
+-- src/main.rt:98:9
+print-requires : tie.Need-print-requires
+print-requires c κs = search needs
+
+-- src/main.rt:89:1
 returns : tie.Need-returns
 returns c = search needs
 
+-- src/main.rt:89:1
 returns-2 : tie.Need-returns-2
 returns-2 c = search needs
 
@@ -64,12 +61,13 @@ take-turn-spec =
     (tie.spec
     slice-aggregate-read-full
     read-full-requires
-    split-requires
-    mul-end
-    mul-answer-events
+    mul-turn-text
     array-share-prefix-events
-    slice-aggregate-answer-events
-    answer-events-requires
-    print-torn-requires
+    slice-aggregate-turn-text
+    slice-aggregate-turn-text-2
+    turn-text-requires
+    array-share-prefix-text
+    slice-aggregate-print
+    print-requires
     returns
     returns-2)
