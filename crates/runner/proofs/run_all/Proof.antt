@@ -1,3 +1,10 @@
+-- `runner::run_all` is safe and ends: each turn starts from a state that passes test 29, and the measure is the number of turns that are left.
+-- Assumes nothing.
+use Prim.Native.Nat.{_-_, _≤_}
+use mathlib.Core.Path.{_≡_}
+use mathlib.Core.Bool.{true}
+use Rattle.states.specs.Shown.{isSound}
+use borrow.Author.Needs.{needs}
 use Rattle.runner.proofs.run_all.Statement.{statement}
 use Rattle.runner.proofs.run_all.Tie as tie
 use Rattle.runner.proofs.run_all.Reads as reads
@@ -5,38 +12,31 @@ use Rattle.runner.proofs.run_all.Lts as lts
 use Rattle.runner.proofs.take_turn.Reads as take-turn-reads
 
 abbrev Inv-loop : tie.InvT-loop
-Inv-loop t state₀ turns₀ state turns = ?
+Inv-loop t state₀ turns₀ state turns = (isSound t state ≡ true) × (turns ≤ 18014398509481984)
 
 abbrev μ-loop : tie.MeasureT-loop
-μ-loop t state₀ turns₀ state turns = ?
+μ-loop t state₀ turns₀ state turns = 18014398509481984 - turns
 
--- src/main.rt:112:5
 loop-holds : tie.Need-loop-holds Inv-loop μ-loop
-loop-holds c = ?
+loop-holds c = search needs
 
--- src/main.rt:113:13
 take-turn-requires : tie.Need-take-turn-requires Inv-loop μ-loop
-take-turn-requires c κs = ?
+take-turn-requires c κs = search needs
 
--- src/main.rt:115:13
 returns : tie.Need-returns Inv-loop μ-loop
-returns c = ?
+returns c = search needs
 
--- src/main.rt:118:9
 add-turns : tie.Need-add-turns Inv-loop μ-loop
-add-turns c = ?
+add-turns c = search needs
 
--- src/main.rt:112:5
 loop-less : tie.Need-loop-less Inv-loop μ-loop
-loop-less c = ?
+loop-less c = search needs
 
--- src/main.rt:112:5
 loop-again : tie.Need-loop-again Inv-loop μ-loop
-loop-again c = ?
+loop-again c = search needs
 
--- src/main.rt:107:1
 returns-2 : tie.Need-returns-2 Inv-loop μ-loop
-returns-2 c = ?
+returns-2 c = search needs
 
 pub run-all-spec : {M : Type 1} → statement M
 run-all-spec =
