@@ -1,23 +1,21 @@
 // The runner: 01, "The runner". It reads tables.bin in the current folder and events on standard input, and prints a line for each event. Only
-// reading and writing stand here: the kernel answers, and the crate `runner_text` has the text.
-ghost use Prim.Native.Nat.{_+_, _*_, _^_, _≤_, _<_};
+// reading and writing stand here: the kernel loads, and the crate `runner_text` has the text of a turn.
+ghost use Prim.Native.Nat.{_^_, _≤_, _<_};
+ghost use mathlib.Core.Path.{_≡_};
+ghost use mathlib.Core.Bool.{true};
 ghost use lib.ListN.{length};
-use events::EVENT_SIZE;
+ghost use Rattle.states.specs.Shown.{isSound};
 use libc::STDIN_FILENO;
 use libc::STDOUT_FILENO;
 use loader::Verdict;
 use runner_text::MOST_TABLES;
+use runner_text::TURN;
+use runner_text::TURN_SIZE;
+use runner_text::TURN_TEXT;
 use states::State;
 
-// At most so many events are held at a time, and so many bytes of events and of answers; the text of their lines is no longer than this.
-const TURN: u64 = 400;
-
-const TURN_SIZE: usize = 32_000;
-
-const TURN_TEXT: usize = 127_200;
-
 // What a turn leaves: the state, and whether there may be more events.
-struct Turned {
+struct Taken {
     state: State,
     more: bool,
 }
@@ -87,58 +85,36 @@ fn print_refusal(number: u8, place: usize) {
     print(&text[..end]);
 }
 
-// The line that a broken tail is given.
-fn print_torn(tail: usize) {
-    if tail > 0 {
-        let mut text = [0u8; 18];
-        let end = runner_text::events_refused(0, &mut text);
-        print(&text[..end]);
-    }
-}
-
-// Runs whole records, the first of them with the number `first`, and prints their lines. A state that the kernel gave is never refused.
-fn answer_events(t: &[u8], state: State, first: u64, events: &[u8]) -> Turned
-    requires { ⌜ (length (now events) ≤ 32000) × (first + 400 ≤ 2 ^ 64) ⌝ }
-{
-    let mut answers = [0u8; TURN_SIZE];
-    let ran = kernel::run(t, state, events, &mut answers);
-    let mut text = [0u8; TURN_TEXT];
-    let end = runner_text::lines(first, events, &answers, &mut text);
-    let is_written = print(&text[..end]);
-    let after = ran.state;
-    Turned {
-        state: after,
-        more: is_written,
-    }
-}
-
-// Reads at most 400 records, and runs those that are whole. The input may go on where all of them came.
-fn take_turn(t: &[u8], state: State, turns: u64) -> Turned
-    requires { ⌜ turns < 2 ^ 54 ⌝ }
+// Reads at most 400 records, and prints the text of what was read. The input may go on where all of them came.
+fn take_turn(t: &[u8], state: State, turns: u64) -> Taken
+    requires { ⌜ (isSound (now t) state ≡ true) × (turns < 2 ^ 54) ⌝ }
+    ensures { λ r. ⌜ isSound (now (t .entry)) (r .state) ≡ true ⌝ }
 {
     let mut events = [0u8; TURN_SIZE];
     let got = io::read_full(STDIN_FILENO, &mut events);
-    let parts = runner_text::split(got);
-    let end = EVENT_SIZE * parts.whole;
-    let turned = answer_events(t, state, TURN * turns, &events[..end]);
-    print_torn(parts.tail);
+    let mut text = [0u8; TURN_TEXT];
+    let turned = runner_text::turn_text(t, state, TURN * turns, &events[..got], &mut text);
+    let end = turned.end;
+    let is_written = print(&text[..end]);
     let after = turned.state;
-    Turned {
+    Taken {
         state: after,
-        more: turned.more && got == TURN_SIZE,
+        more: is_written && got == TURN_SIZE,
     }
 }
 
 // One turn after another, to the end of the input, or of the number of turns, which no input reaches.
-fn run_all(t: &[u8], loaded: State) {
+fn run_all(t: &[u8], loaded: State)
+    requires { ⌜ isSound (now t) loaded ≡ true ⌝ }
+{
     let mut state = loaded;
     let mut turns: u64 = 0;
     while turns < 0x40_0000_0000_0000 {
-        let turned = take_turn(t, state, turns);
-        if !turned.more {
+        let taken = take_turn(t, state, turns);
+        if !taken.more {
             return;
         }
-        state = turned.state;
+        state = taken.state;
         turns += 1;
     }
 }

@@ -1,18 +1,14 @@
 -- One text after another is one text. Assumes nothing.
 use Prim.Native.Nat.{ℕ, zero, suc, _+_, _-_, _*_, _/_, _%_, _≤_, _<_}
-use mathlib.Core.Path.{_≡_, refl, sym, ap, _∙_, subst}
+use mathlib.Core.Path.{_≡_, refl, sym, ap, ap₂, _∙_, subst}
 use mathlib.Core.List.{List, [], _∷_, _++_, append-assoc}
 use native.Mathlib.Nat.{add-assoc, add-zero}
-use mathlib.Core.Bool.{Bool, true, false}
 use native.Mathlib.Numerals.{add-one, sub-one}
 use native.Mathlib.Omega.{arith}
-use lib.ListN.{length, take, drop, getD, set, length-append, length-take, take-append-drop}
+use lib.ListN.{length, take, drop, getD, set, length-append, take-append-drop}
 use lib.Seq.{take-at, drop-append-add, drop-drop, set-split, take-suc, length-take-le}
 use borrow.Author.Tests.{lt-ltb, le-ltb}
-use Rattle.model.specs.Words.{word32}
-use Rattle.kernel.proofs.Laws.{one-handed, none-handed, handed-short as kernel-short}
-use Rattle.model.specs.Answers.{handed, stretch, isHanded}
-use Rattle.runner_text.specs.Text.{digits, hex, hexByte, dash, showsMessage, message}
+use Rattle.runner_text.specs.Text.{digits, hex, hexByte}
 use Rattle.runner_text.specs.Wrote.{put, Wrote}
 
 -- one character stored
@@ -79,6 +75,11 @@ wrote-then {m} {n} {xs} {ys} {out} {out'} {out''} {at} {mid} {next} fits f g =
           ∙ put-put out at xs ys (omega (arith, f .after, f .within));
     }
 
+-- what was written from the start of the bytes on
+pub wrote-text : {m next : ℕ} {text out out' : List ℕ} → Wrote m text out 0 next out' → take next out' ≡ text
+unfolding put
+wrote-text {m} {next} {text} {out} f = ap₂ take (f .after) (f .laid) ∙ take-at text (drop (0 + length text) out) (0 + length text) (omega arith)
+
 -- the same promise in other words
 pub wrote-as : {m n : ℕ} {xs ys out out' : List ℕ} {at next : ℕ} → m ≤ n → xs ≡ ys → Wrote m xs out at next out' → Wrote n ys out at next out'
 wrote-as {m} {n} {xs} {ys} {out} {out'} {at} {next} more same f =
@@ -108,24 +109,6 @@ pub wrote-five : {j k m n o : ℕ} {vs ws xs ys zs out out₁ out₂ out₃ out�
     → Wrote (j + (k + (m + (n + o)))) (vs ++ (ws ++ (xs ++ (ys ++ zs)))) out at t out₅
 wrote-five fits e f g h i =
     wrote-then (omega arith) e (wrote-then (omega (arith, e .within, e .kept)) f (wrote-three (omega (arith, e .within, e .kept, f .within, f .kept)) g h i))
-
--- a message handed out has at most 64 bytes
-pub handed-short : (b : List ℕ) (r : ℕ) → length (handed b r) ≤ 64
-unfolding handed
-handed-short b r = go (isHanded b r) refl
-  where
-    go : (x : Bool) → isHanded b r ≡ x → length (take (stretch b r .size) (drop (stretch b r .from) b)) ≤ 64
-    go true h = rw (one-handed b r h) (omega (arith, kernel-short b r h, length-take (word32 b (80 * r + 8)) (drop (80 * r + 16) b)))
-    go false h = rw (none-handed b r h) (omega arith)
-
--- the message of a line, by the test
-pub message-shown : (event answer : List ℕ) → showsMessage event answer ≡ true → message event answer ≡ hex (handed answer 0)
-unfolding message
-message-shown event answer h = rw h
-
-pub message-not : (event answer : List ℕ) → showsMessage event answer ≡ false → message event answer ≡ dash ∷ []
-unfolding message
-message-not event answer h = rw h
 
 -- digits, by the tests
 pub digits-none : (k n : ℕ) → k ≡ 0 → digits k n ≡ []

@@ -1,2 +1,4 @@
 pub mod Text
+pub mod Output
 pub mod Wrote
+pub mod Turned

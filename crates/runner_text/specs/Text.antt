@@ -6,6 +6,7 @@ use mathlib.Core.List.{List, [], _∷_, _++_}
 use lib.Dec.{ltb, leb, eqb}
 use lib.ListN.{take, drop}
 use Rattle.model.specs.Words.{if_then_else_, byte, word16, word32}
+use Rattle.model.specs.Events.{eventSize}
 use Rattle.model.specs.Answers.{handed}
 
 -- the characters of a line besides digits
@@ -65,10 +66,14 @@ message event answer = if showsMessage event answer then hex (handed answer 0) e
 unfoldable pub line : ℕ → List ℕ → List ℕ → List ℕ
 line number event answer = who number answer ++ (what answer ++ (how answer ++ (message event answer ++ (newline ∷ []))))
 
+-- record i of the bytes of events or of answers
+abbrev pub recordAt : List ℕ → ℕ → List ℕ
+recordAt b i = take eventSize (drop (eventSize * i) b)
+
 -- the lines of the first n records, numbered from first on
 abbrev pub lines : ℕ → List ℕ → List ℕ → ℕ → List ℕ
 lines first events answers zero = []
-lines first events answers (suc n) = lines first events answers n ++ line (first + n) (take 80 (drop (80 * n) events)) (take 80 (drop (80 * n) answers))
+lines first events answers (suc n) = lines first events answers n ++ line (first + n) (recordAt events n) (recordAt answers n)
 
 -- "tables refused N at R"
 unfoldable pub tablesRefused : ℕ → ℕ → List ℕ

@@ -3,13 +3,15 @@
 mod digits;
 mod records;
 mod refusals;
+mod turn;
 
 use events::EVENT_SIZE;
-pub use records::line;
-pub use records::lines;
-pub use refusals::events_refused;
 pub use refusals::tables_refused;
 use tables::RECORD_SIZE;
+pub use turn::TURN;
+pub use turn::TURN_SIZE;
+pub use turn::TURN_TEXT;
+pub use turn::turn_text;
 ghost use Prim.Native.Nat.{_/_, _%_, _≤_};
 ghost use mathlib.Core.Path.{_≡_};
 ghost use Rattle.runner_text.specs.Text.{loadedLength};

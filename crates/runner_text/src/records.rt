@@ -1,8 +1,8 @@
 // The line of an event: number, doer, code, id, number, length field, byte 12, byte 13, depth, and the message.
-ghost use Prim.Native.Nat.{_+_, _*_, _/_, _^_, _≤_};
+ghost use Prim.Native.Nat.{_+_, _*_, _/_, _%_, _^_, _≤_};
 ghost use mathlib.Core.Path.{_≡_};
-ghost use lib.ListN.{length, take, drop};
-ghost use Rattle.runner_text.specs.Text.{who as whoOf, what as whatOf, how as howOf, showsMessage, message as messageOf, line as lineOf, lines as linesOf};
+ghost use lib.ListN.{length};
+ghost use Rattle.runner_text.specs.Text.{who as whoOf, what as whatOf, how as howOf, showsMessage, message as messageOf, line as lineOf, recordAt, lines as linesOf};
 ghost use Rattle.runner_text.specs.Wrote.{Wrote};
 use super::digits::field;
 use super::digits::hex;
@@ -70,55 +70,45 @@ fn shows_message(event: &[u8], answer: &[u8]) -> bool
     event[0] == RECEIVE_QUEUING_MESSAGE
 }
 
-// The message bytes as the reader hands them out, else a dash.
-fn message(event: &[u8], answer: &[u8], at: usize, out: &mut [u8]) -> usize
-    requires { ⌜ (length (now event) ≡ 80) × (length (now answer) ≡ 80) × (at + 128 ≤ length (now out)) ⌝ }
-    ensures { λ r. ⌜ Wrote 128 (messageOf (now (event .entry)) (now (answer .entry))) (now (out .entry)) at r (now (out .exit)) ⌝ }
+// The message of record i of the answers as the reader hands it out, else a dash.
+fn message(event: &[u8], answers: &[u8], i: usize, at: usize, out: &mut [u8]) -> usize
+    requires { ⌜ (length (now event) ≡ 80) × (length (now answers) % 80 ≡ 0) × (80 * i + 80 ≤ length (now answers)) × (at + 128 ≤ length (now out)) ⌝ }
+    ensures { λ r. ⌜ Wrote 128 (messageOf (now (event .entry)) (recordAt (now (answers .entry)) i)) (now (out .entry)) at r (now (out .exit)) ⌝ }
 {
-    if shows_message(event, answer) {
-        return hex(kernel::read(answer, 0), at, out);
+    let start = EVENT_SIZE * i;
+    let end = start + EVENT_SIZE;
+    if shows_message(event, &answers[start..end]) {
+        return hex(kernel::read(answers, i), at, out);
     }
     letter(b'-', at, out)
 }
 
-// The whole line.
-pub fn line(number: u64, event: &[u8], answer: &[u8], at: usize, out: &mut [u8]) -> usize
-    requires { ⌜ (length (now event) ≡ 80) × (length (now answer) ≡ 80) × (at + 318 ≤ length (now out)) ⌝ }
-    ensures { λ r. ⌜ Wrote 318 (lineOf number (now (event .entry)) (now (answer .entry))) (now (out .entry)) at r (now (out .exit)) ⌝ }
-{
-    let named = who(number, answer, at, out);
-    let told = what(answer, named, out);
-    let marked = how(answer, told, out);
-    let shown = message(event, answer, marked, out);
-    letter(b'\n', shown, out)
-}
-
-// The line of record i of the list, whose first event has the number `first`.
-fn line_at(first: u64, events: &[u8], answers: &[u8], i: usize, at: usize, out: &mut [u8]) -> usize
-    requires { ⌜ (80 * i + 80 ≤ length (now events)) × (80 * i + 80 ≤ length (now answers)) × (at + 318 ≤ length (now out)) × (first + i + 1 ≤ 2 ^ 64) ⌝ }
-    ensures { λ r. ⌜ Wrote 318 (lineOf (first + i) (take 80 (drop (80 * i) (now (events .entry)))) (take 80 (drop (80 * i) (now (answers .entry))))) (now (out .entry)) at r (now (out .exit)) ⌝ }
+// The line of record i of the list.
+fn line(number: u64, events: &[u8], answers: &[u8], i: usize, at: usize, out: &mut [u8]) -> usize
+    requires { ⌜ (80 * i + 80 ≤ length (now events)) × (length (now answers) % 80 ≡ 0) × (80 * i + 80 ≤ length (now answers)) × (at + 318 ≤ length (now out)) ⌝ }
+    ensures { λ r. ⌜ Wrote 318 (lineOf number (recordAt (now (events .entry)) i) (recordAt (now (answers .entry)) i)) (now (out .entry)) at r (now (out .exit)) ⌝ }
 {
     let start = EVENT_SIZE * i;
     let end = start + EVENT_SIZE;
-    line(
-        first + i as u64,
-        &events[start..end],
-        &answers[start..end],
-        at,
-        out,
-    )
+    let event = &events[start..end];
+    let answer = &answers[start..end];
+    let named = who(number, answer, at, out);
+    let told = what(answer, named, out);
+    let marked = how(answer, told, out);
+    let shown = message(event, answers, i, marked, out);
+    letter(b'\n', shown, out)
 }
 
-// The lines of a list's whole records, from the start of `out` on.
+// The lines of a list's whole records, from the start of `out` on. The first event has the number `first`.
 pub fn lines(first: u64, events: &[u8], answers: &[u8], out: &mut [u8]) -> usize
-    requires { ⌜ (length (now events) ≤ length (now answers)) × (318 * (length (now events) / 80) ≤ length (now out)) × (first + length (now events) / 80 ≤ 2 ^ 64) ⌝ }
+    requires { ⌜ (length (now events) ≤ length (now answers)) × (length (now answers) % 80 ≡ 0) × (318 * (length (now events) / 80) ≤ length (now out)) × (first + length (now events) / 80 ≤ 2 ^ 64) ⌝ }
     ensures { λ r. ⌜ Wrote (318 * (length (now (events .entry)) / 80)) (linesOf first (now (events .entry)) (now (answers .entry)) (length (now (events .entry)) / 80)) (now (out .entry)) 0 r (now (out .exit)) ⌝ }
 {
     let n = events.len() / EVENT_SIZE;
     let mut at: usize = 0;
     let mut i: usize = 0;
     while i < n {
-        at = line_at(first, events, answers, i, at, out);
+        at = line(first + i as u64, events, answers, i, at, out);
         i += 1;
     }
     at

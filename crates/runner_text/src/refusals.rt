@@ -2,6 +2,7 @@
 ghost use Prim.Native.Nat.{_+_, _≤_};
 ghost use lib.ListN.{length};
 ghost use Rattle.runner_text.specs.Text.{tablesRefused, eventsRefused};
+ghost use Rattle.runner_text.specs.Output.{tornText};
 ghost use Rattle.runner_text.specs.Wrote.{Wrote};
 use super::digits::decimal;
 use super::digits::letter;
@@ -31,9 +32,20 @@ pub fn tables_refused(number: u8, place: usize, out: &mut [u8]) -> usize
     letter(b'\n', placed, out)
 }
 
-pub fn events_refused(at: usize, out: &mut [u8]) -> usize
+fn events_refused(at: usize, out: &mut [u8]) -> usize
     requires { ⌜ at + 18 ≤ length (now out) ⌝ }
     ensures { λ r. ⌜ Wrote 18 eventsRefused (now (out .entry)) at r (now (out .exit)) ⌝ }
 {
     copy(b"events refused 27\n", at, out)
+}
+
+// What is told of a broken tail of so many bytes.
+pub fn torn(tail: usize, at: usize, out: &mut [u8]) -> usize
+    requires { ⌜ at + 18 ≤ length (now out) ⌝ }
+    ensures { λ r. ⌜ Wrote 18 (tornText tail) (now (out .entry)) at r (now (out .exit)) ⌝ }
+{
+    if tail == 0 {
+        return at;
+    }
+    events_refused(at, out)
 }

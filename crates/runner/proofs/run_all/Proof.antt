@@ -1,5 +1,9 @@
--- `runner::run_all` is safe and ends: the measure is the number of turns that are left. Assumes nothing.
+-- `runner::run_all` is safe and ends: each turn starts from a state that passes test 29, and the measure is the number of turns that are left.
+-- Assumes nothing.
 use Prim.Native.Nat.{_-_, _≤_}
+use mathlib.Core.Path.{_≡_}
+use mathlib.Core.Bool.{true}
+use Rattle.states.specs.Shown.{isSound}
 use borrow.Author.Needs.{needs}
 use Rattle.runner.proofs.run_all.Statement.{statement}
 use Rattle.runner.proofs.run_all.Tie as tie
@@ -8,7 +12,7 @@ use Rattle.runner.proofs.run_all.Lts as lts
 use Rattle.runner.proofs.take_turn.Reads as take-turn-reads
 
 abbrev Inv-loop : tie.InvT-loop
-Inv-loop t state₀ turns₀ state turns = turns ≤ 18014398509481984
+Inv-loop t state₀ turns₀ state turns = (isSound t state ≡ true) × (turns ≤ 18014398509481984)
 
 abbrev μ-loop : tie.MeasureT-loop
 μ-loop t state₀ turns₀ state turns = 18014398509481984 - turns

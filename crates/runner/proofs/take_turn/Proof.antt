@@ -1,7 +1,7 @@
--- `runner::take_turn` is safe: what is read lies within the array. Assumes nothing.
+-- `runner::take_turn` meets its contract: what is read and what is told lie within their arrays, and the state passes test 29 again. Assumes nothing.
 use mathlib.Core.Path.{sym}
-use Prim.Native.Nat.{ℕ}
-use lib.ListN.{length-take, length-replicate}
+use Prim.Native.Nat.{ℕ, _≤_}
+use lib.ListN.{length, length-take, length-replicate}
 use lib.Seq.{length-take-le}
 use native.Mathlib.Omega.{arith}
 use borrow.Author.Needs.{needs}
@@ -10,16 +10,24 @@ use Rattle.runner.proofs.take_turn.Tie as tie
 use Rattle.runner.proofs.take_turn.Reads as reads
 use Rattle.runner.proofs.take_turn.Lts as lts
 use Rattle.io.proofs.read_full.Reads as read-full-reads
-use Rattle.runner_text.proofs.split.Reads as split-reads
-use Rattle.runner.proofs.answer_events.Reads as answer-events-reads
-use Rattle.runner.proofs.print_torn.Reads as print-torn-reads
+use Rattle.runner.proofs.print.Reads as print-reads
+use Rattle.runner_text.proofs.turn_text.Reads as turn-text-reads
 
 -- the points on the way: from each the one before it that an answer names
 abbrev from-read-full : tie.After-read-full → tie.Start
 from-read-full c = c .before .before .before
 
-abbrev from-events3 : tie.After-events3 → tie.After-read-full
-from-events3 c = c .before .before .before
+abbrev from-text : tie.After-text → tie.After-read-full
+from-text c = c .before .before .before
+
+abbrev from-text3 : tie.After-text3 → tie.After-turn-text
+from-text3 c = c .before .before
+
+-- a turn's text lies within its array
+text-fits : (c : tie.After-turn-text) → c .turn-text .result .end ≤ length (c .turn-text .last .1 .1 .1 .1 .0)
+text-fits c =
+    let wrote = c .turn-text .ensures .wrote in
+    omega (arith, wrote .within, wrote .kept, length-replicate {A = ℕ} 127218 0)
 
 slice-aggregate-read-full : tie.Need-slice-aggregate-read-full
 slice-aggregate-read-full c = search needs
@@ -27,30 +35,33 @@ slice-aggregate-read-full c = search needs
 read-full-requires : tie.Need-read-full-requires
 read-full-requires c κs = search needs
 
-split-requires : tie.Need-split-requires
-split-requires c κs = search needs
-
-mul-end : tie.Need-mul-end
-mul-end c = search needs
-
-mul-answer-events : tie.Need-mul-answer-events
-mul-answer-events c = search needs
+mul-turn-text : tie.Need-mul-turn-text
+mul-turn-text c = search needs
 
 array-share-prefix-events : tie.Need-array-share-prefix-events
 array-share-prefix-events c = search needs
 
-slice-aggregate-answer-events : tie.Need-slice-aggregate-answer-events
-slice-aggregate-answer-events c = sym (length-take-le _ _ (search needs))
+slice-aggregate-turn-text : tie.Need-slice-aggregate-turn-text
+slice-aggregate-turn-text c = search needs
 
-answer-events-requires : tie.Need-answer-events-requires
-answer-events-requires c κs =
-    let at-read-full = from-events3 c in
+slice-aggregate-turn-text-2 : tie.Need-slice-aggregate-turn-text-2
+slice-aggregate-turn-text-2 c = search needs
+
+turn-text-requires : tie.Need-turn-text-requires
+turn-text-requires c κs =
+    let at-read-full = from-text c in
     let s = from-read-full at-read-full in
     let r = at-read-full .read-full in
-    (simp length-take (omega (arith, r .kept .1 .0, length-replicate {A = ℕ} 32000 0)), omega (arith, s .pre))
+    (s .pre .0, simp length-take (omega (arith, r .kept .1 .0, length-replicate {A = ℕ} 32000 0)), omega (arith, s .pre .1), omega (arith, length-replicate {A = ℕ} 127218 0))
 
-print-torn-requires : tie.Need-print-torn-requires
-print-torn-requires c κs = search needs
+array-share-prefix-text : tie.Need-array-share-prefix-text
+array-share-prefix-text c = text-fits (c .before)
+
+slice-aggregate-print : tie.Need-slice-aggregate-print
+slice-aggregate-print c = sym (length-take-le _ _ (text-fits (from-text3 c)))
+
+print-requires : tie.Need-print-requires
+print-requires c κs = search needs
 
 returns : tie.Need-returns
 returns c = search needs
@@ -64,12 +75,13 @@ take-turn-spec =
     (tie.spec
     slice-aggregate-read-full
     read-full-requires
-    split-requires
-    mul-end
-    mul-answer-events
+    mul-turn-text
     array-share-prefix-events
-    slice-aggregate-answer-events
-    answer-events-requires
-    print-torn-requires
+    slice-aggregate-turn-text
+    slice-aggregate-turn-text-2
+    turn-text-requires
+    array-share-prefix-text
+    slice-aggregate-print
+    print-requires
     returns
     returns-2)

@@ -1,7 +1,11 @@
--- `runner_text::records::line` meets its contract: its parts one after another. Assumes nothing.
+-- `runner_text::records::line` meets its contract: its parts one after another, of the record that stands there. Assumes nothing.
+use Prim.Native.Nat.{_+_, _*_, _-_}
+use mathlib.Core.Path.{_≡_, ap}
+use mathlib.Core.List.{_++_}
+use lib.ListN.{take, drop}
+use Rattle.runner_text.specs.Text.{who, what, how, message, line, recordAt}
 use Rattle.runner_text.proofs.Laws
 use native.Mathlib.Omega.{arith}
-use Rattle.runner_text.specs.Text.{line}
 use borrow.Author.Needs.{needs}
 use Rattle.runner_text.proofs.records.line.Statement.{statement}
 use Rattle.runner_text.proofs.records.line.Tie as tie
@@ -15,7 +19,7 @@ use Rattle.runner_text.proofs.records.who.Reads as who-reads
 
 -- the points on the way: from each the one before it that an answer names
 abbrev from-who : tie.After-who → tie.Start
-from-who c = c .before .before .before .before .before
+from-who c = c .before .before .before .before .before .before .before
 
 abbrev from-what : tie.After-what → tie.After-who
 from-what c = c .before .before .before .before
@@ -31,6 +35,30 @@ from-letter c = c .before .before .before .before
 
 abbrev from-slice-known6 : tie.After-slice-known6 → tie.After-letter
 from-slice-known6 c = c .before .before
+
+mul-start : tie.Need-mul-start
+mul-start c = search needs
+
+add-end : tie.Need-add-end
+add-end c = search needs
+
+sub-event : tie.Need-sub-event
+sub-event c = search needs
+
+part-event-start : tie.Need-part-event-start
+part-event-start c = search needs
+
+part-event-end : tie.Need-part-event-end
+part-event-end c = search needs
+
+sub-answer : tie.Need-sub-answer
+sub-answer c = search needs
+
+part-answer-start : tie.Need-part-answer-start
+part-answer-start c = search needs
+
+part-answer-end : tie.Need-part-answer-end
+part-answer-end c = search needs
 
 who-requires : tie.Need-who-requires
 who-requires c κs = search needs
@@ -59,13 +87,29 @@ returns c =
     let at-what = from-how at-how in
     let at-who = from-what at-what in
     let s = from-who at-who in
-    Laws.wrote-five (omega (arith, s .pre)) (at-who .who .ensures) (at-what .what .ensures) (at-how .how .ensures) (at-message .message .ensures)
+    let a = s .args in
+    let event = drop (80 * a .i) (a .events .now) in
+    let answer = drop (80 * a .i) (a .answers .now) in
+    let size : 80 * a .i + 80 - 80 * a .i ≡ 80 = omega arith in
+    Laws.wrote-five (omega (arith, s .pre))
+    (Laws.wrote-same (ap (λ k. who (a .number) (take k answer)) size) (at-who .who .ensures))
+    (Laws.wrote-same (ap (λ k. what (take k answer)) size) (at-what .what .ensures))
+    (Laws.wrote-same (ap (λ k. how (take k answer)) size) (at-how .how .ensures))
+    (Laws.wrote-same (ap (λ k. message (take k event) (recordAt (a .answers .now) (a .i))) size) (at-message .message .ensures))
     (at-letter .letter .ensures)
 
 pub line-spec : {M : Type 1} → statement M
 line-spec =
     tie.close
     (tie.spec
+    mul-start
+    add-end
+    sub-event
+    part-event-start
+    part-event-end
+    sub-answer
+    part-answer-start
+    part-answer-end
     who-requires
     what-requires
     how-requires

@@ -12,7 +12,7 @@ use Rattle.runner_text.proofs.records.lines.Statement.{statement}
 use Rattle.runner_text.proofs.records.lines.Tie as tie
 use Rattle.runner_text.proofs.records.lines.Reads as reads
 use Rattle.runner_text.proofs.records.lines.Lts as lts
-use Rattle.runner_text.proofs.records.line_at.Reads as line-at-reads
+use Rattle.runner_text.proofs.records.line.Reads as line-reads
 
 abbrev Inv-loop : tie.InvT-loop
 Inv-loop first events answers out₀ n at₀ i₀ out at i =
@@ -31,10 +31,10 @@ from-slice-known c = c .before .before .before
 abbrev from-at-loop : tie.At-loop Inv-loop μ-loop → tie.Start Inv-loop μ-loop
 from-at-loop c = c .before .before .before .before
 
-abbrev from-line-at : tie.After-line-at Inv-loop μ-loop → tie.In-loop Inv-loop μ-loop
-from-line-at c = c .before .before
+abbrev from-line : tie.After-line Inv-loop μ-loop → tie.In-loop Inv-loop μ-loop
+from-line c = c .before .before
 
-abbrev from-slice-known2 : tie.After-slice-known2 Inv-loop μ-loop → tie.After-line-at Inv-loop μ-loop
+abbrev from-slice-known2 : tie.After-slice-known2 Inv-loop μ-loop → tie.After-line Inv-loop μ-loop
 from-slice-known2 c = c .before .before
 
 loop-holds : tie.Need-loop-holds Inv-loop μ-loop
@@ -42,14 +42,17 @@ loop-holds c =
     let s = from-slice-known c in
     (refl, omega arith, refl, Laws.wrote-none (s .args .out .now) 0)
 
-line-at-requires : tie.Need-line-at-requires Inv-loop μ-loop
-line-at-requires c κs =
+add-line : tie.Need-add-line Inv-loop μ-loop
+add-line c = search needs
+
+line-requires : tie.Need-line-requires Inv-loop μ-loop
+line-requires c κs =
     let at-in-loop = c .before in
     let at-at-loop = at-in-loop .before in
     let s = from-at-loop at-at-loop in
     let l = at-at-loop .loop in
     let below = at-in-loop .loop-test .taken in
-    (omega (arith, l .inv .0, below), omega (arith, l .inv .0, below, s .pre .0), omega (arith, l .inv .0, l .inv .2, l .inv .3 .within, below, s .pre .1), omega (arith, l .inv .0, below, s .pre .2))
+    (omega (arith, l .inv .0, below), s .pre .1, omega (arith, l .inv .0, below, s .pre .0), omega (arith, l .inv .0, l .inv .2, l .inv .3 .within, below, s .pre .2))
 
 add-i : tie.Need-add-i Inv-loop μ-loop
 add-i c = search needs
@@ -59,18 +62,18 @@ loop-less c = search needs
 
 loop-again : tie.Need-loop-again Inv-loop μ-loop
 loop-again c =
-    let at-line-at = from-slice-known2 c in
-    let at-in-loop = from-line-at at-line-at in
+    let at-line = from-slice-known2 c in
+    let at-in-loop = from-line at-line in
     let at-at-loop = at-in-loop .before in
     let s = from-at-loop at-at-loop in
     let a = s .args in
     let l = at-at-loop .loop in
     let below = at-in-loop .loop-test .taken in
-    let w = at-line-at .line-at .ensures in (
+    let w = at-line .line .ensures in (
       l .inv .0,
       omega (arith, below),
       w .kept ∙ l .inv .2,
-      Laws.wrote-as (omega arith) (sym (ap (lines (a .first) (a .events .now) (a .answers .now)) (add-one (l .i)))) (Laws.wrote-then (omega (arith, s .pre .1, l .inv .0, below)) (l .inv .3) w),
+      Laws.wrote-as (omega arith) (sym (ap (lines (a .first) (a .events .now) (a .answers .now)) (add-one (l .i)))) (Laws.wrote-then (omega (arith, s .pre .2, l .inv .0, below)) (l .inv .3) w),
     )
 
 same-length : tie.Need-same-length Inv-loop μ-loop
@@ -92,7 +95,8 @@ lines-spec =
     Inv-loop
     μ-loop
     loop-holds
-    line-at-requires
+    add-line
+    line-requires
     add-i
     loop-less
     loop-again
