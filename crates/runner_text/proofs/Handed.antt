@@ -16,13 +16,16 @@ use Rattle.kernel.proofs.Laws.{handed-short as size-short}
 use Rattle.runner_text.specs.Text.{hex, dash, showsMessage, message, recordAt}
 
 -- a message handed out has at most 64 bytes
-pub handed-short : (b : List ℕ) (r : ℕ) → length (handed b r) ≤ 64
+handed-short : (b : List ℕ) (r : ℕ) → length (handed b r) ≤ 64
 unfolding handed
 handed-short b r = go (isHanded b r) refl
   where
     go : (x : Bool) → isHanded b r ≡ x → length (take (stretch b r .size) (drop (stretch b r .from) b)) ≤ 64
     go true h = rw (one-handed b r h) (omega (arith, size-short b r h, length-take (word32 b (80 * r + 8)) (drop (80 * r + 16) b)))
     go false h = rw (none-handed b r h) (omega arith)
+
+pub message-short : (m b : List ℕ) (r : ℕ) → m ≡ handed b r → length m ≤ 64
+message-short m b r e = rw e (handed-short b r)
 
 -- record i of whole records: its bytes, the reader's test of it, and what is handed out
 module _ (b : List ℕ) (i : ℕ) (whole : length b % 80 ≡ 0) (there : 80 * i + 80 ≤ length b) where

@@ -38,8 +38,10 @@ lines-same : (first : ℕ) (a a' c c' : List ℕ) (n : ℕ) → ((i : ℕ) → i
     → lines first a c n ≡ lines first a' c' n
 lines-same first a a' c c' zero events replies = refl
 lines-same first a a' c c' (suc n) events replies =
-    ap₂ (λ l m. l ++ m) (lines-same first a a' c c' n (λ i h. events i (omega arith)) (λ i h. replies i (omega arith)))
-    (ap₂ (line (first + n)) (events n (omega arith)) (replies n (omega arith)))
+    let before = lines-same first a a' c c' n (λ i h. events i (omega arith)) (λ i h. replies i (omega arith)) in
+    let event = events n (omega arith) in
+    let reply = replies n (omega arith) in
+    cc
 
 -- bytes after those of the records do not matter
 lines-front : (first : ℕ) (a b c d : List ℕ) (n : ℕ) → 80 * n ≤ length a → 80 * n ≤ length c → lines first (a ++ b) (c ++ d) n ≡ lines first a c n

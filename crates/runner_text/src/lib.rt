@@ -20,12 +20,12 @@ ghost use Rattle.runner_text.specs.Text.{loadedLength};
 pub const MOST_TABLES: usize = 7_728;
 
 // How many whole records a list of bytes holds, and how many bytes its broken tail has.
-pub struct Parts {
-    pub whole: usize,
-    pub tail: usize,
+struct Parts {
+    whole: usize,
+    tail: usize,
 }
 
-pub fn split(length: usize) -> Parts
+fn split(length: usize) -> Parts
     ensures { λ r. ⌜ (r .whole ≡ length / 80) × (r .tail ≡ length % 80) ⌝ }
 {
     Parts {

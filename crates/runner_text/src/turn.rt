@@ -1,4 +1,4 @@
-// A turn: of the bytes that were read, the whole records are run and their lines written, and after them the line of a broken tail.
+// A turn: the text of at most 400 records, and the state after them.
 ghost use Prim.Native.Nat.{_+_, _%_, _^_, _≤_};
 ghost use mathlib.Core.Path.{_≡_};
 ghost use mathlib.Core.Bool.{true};
@@ -36,7 +36,8 @@ fn answer_events(t: &[u8], state: State, first: u64, events: &[u8], out: &mut [u
     Turned { state: after, end }
 }
 
-// The whole turn. The state handed back passes test 29 again, so that the next turn can start from it.
+// The text of what was read: the lines of its whole records, and after them what is told of a broken tail. The state handed back passes test 29
+// again, so that the next turn can start from it.
 pub fn turn_text(t: &[u8], state: State, first: u64, read: &[u8], out: &mut [u8]) -> Turned
     requires { ⌜ (isSound (now t) state ≡ true) × (length (now read) ≤ 32000) × (first + 400 ≤ 2 ^ 64) × (127218 ≤ length (now out)) ⌝ }
     ensures { λ r. ⌜ TurnMeets (now (t .entry)) state first (now (read .entry)) (now (out .entry)) r (now (out .exit)) ⌝ }

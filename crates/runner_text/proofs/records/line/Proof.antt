@@ -1,7 +1,6 @@
 -- `runner_text::records::line` meets its contract: its parts one after another, of the record that stands there. Assumes nothing.
 use Prim.Native.Nat.{_+_, _*_, _-_}
 use mathlib.Core.Path.{_≡_, ap}
-use mathlib.Core.List.{_++_}
 use lib.ListN.{take, drop}
 use Rattle.runner_text.specs.Text.{who, what, how, message, line, recordAt}
 use Rattle.runner_text.proofs.Laws

@@ -1,7 +1,7 @@
 -- `runner_text::records::message` meets its contract: what the reader hands out of the record, or a dash. Assumes nothing.
 use Prim.Native.Nat.{_+_, _*_, _-_}
 use mathlib.Core.Path.{_≡_, sym, ap, _∙_}
-use lib.ListN.{length, take, drop}
+use lib.ListN.{take, drop}
 use Rattle.runner_text.specs.Text.{hex, showsMessage, recordAt}
 use Rattle.runner_text.proofs.Laws
 use Rattle.runner_text.proofs.Handed
@@ -64,7 +64,7 @@ hex-requires : tie.Need-hex-requires
 hex-requires c κs =
     let at-read = c .before in
     let s = from-shows-message (at-read .before .before) in
-    omega (arith, s .pre .3, ap length (at-read .read .ensures), Handed.handed-short (s .args .answers .now) (s .args .i))
+    omega (arith, s .pre .3, Handed.message-short _ _ _ (at-read .read .ensures))
 
 same-length : tie.Need-same-length
 same-length c = search needs
@@ -78,7 +78,7 @@ returns c =
     let s = from-shows-message at-shows-message in
     let a = s .args in
     let b = a .answers .now in
-    Laws.wrote-as (omega (arith, ap length (at-read .read .ensures), Handed.handed-short b (a .i)))
+    Laws.wrote-as (omega (arith, Handed.message-short _ _ _ (at-read .read .ensures)))
     (ap hex (at-read .read .ensures ∙ Handed.handed-record b (a .i) (s .pre .1) (s .pre .2))
     ∙ sym (Handed.message-shown (a .event .now) (recordAt b (a .i)) (sym (tested at-shows-message) ∙ at-then1 .if1 .taken)))
     (at-hex .hex .ensures)

@@ -1,8 +1,8 @@
 -- `runner_text::turn::turn_text` meets its contract: the lines of the whole records, and then the broken tail. Assumes nothing.
-use Prim.Native.Nat.{_*_, _/_, _%_}
+use Prim.Native.Nat.{_*_}
 use mathlib.Core.Path.{_≡_, sym, ap, ap₂, _∙_}
 use mathlib.Core.List.{_++_}
-use lib.ListN.{length, take, length-take}
+use lib.ListN.{length, take}
 use lib.Seq.{length-take-le}
 use Rattle.model.specs.Run.{afterAll, eventsOf}
 use Rattle.states.specs.Shown.{shownState}
@@ -78,7 +78,7 @@ returns c =
       wrote =
           Laws.wrote-same
           (ap₂ (λ n k. linesFrom t shown (a .first) (take (80 * n) read) ++ tornText k) (counts .0) (counts .1) ∙ sym (Turns.text-split read t shown (a .first)))
-          (Laws.wrote-then (omega (arith, s .pre .3)) (answered .wrote) (at-torn .torn .ensures));
+          (Laws.wrote-then {xs = linesFrom t shown (a .first) (take (80 * at-split .split .result .whole) read)} (omega (arith, s .pre .3)) (answered .wrote) (at-torn .torn .ensures));
       after =
           answered .after ∙ ap (afterAll t shown) (ap (λ n. eventsOf (take (80 * n) read)) (counts .0) ∙ Turns.events-whole read);
       sound = answered .sound;
