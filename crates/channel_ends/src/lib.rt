@@ -1,5 +1,7 @@
 // Refusal 25: the ends of a channel. Its ends are ids in a row: end 0 is the source, ends 1 to its count the destinations. A count that
 // 23 refuses may be up to 255, so that an end stands past the table. The rows are read as they stand.
+#![tactic(auto)]
+
 ghost use Rattle.std.specs.Prelude.{◌+◌, ◌-◌, ◌≤◌, ◌<◌, ◌≡◌, true, ◌||◌, not, eqb};
 ghost use Rattle.model.specs.Words.{between};
 ghost use Rattle.model.specs.Tables.{records, ports_end, queuing, row_at, end_at};

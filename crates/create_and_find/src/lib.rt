@@ -1,4 +1,6 @@
 // Create and get id, which find their port by name.
+#![tactic(auto)]
+
 ghost use Rattle.std.specs.Prelude.{◌≡◌, List, ℕ, ◌+◌, ◌<◌, length};
 ghost use Rattle.model.specs.Services.{like_row, made, create, get_id};
 ghost use Rattle.tables.specs.Shown.{row_of};

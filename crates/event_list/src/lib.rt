@@ -1,4 +1,6 @@
 // A list of events: one turn after another, each answer laid where it goes.
+#![tactic(auto)]
+
 ghost use Rattle.std.specs.Prelude.{◌+◌, ◌*◌, ◌≤◌, length, take, drop};
 ghost use Rattle.model.specs.Step.{answer};
 ghost use Rattle.event_step.specs.Turned.{Ready};

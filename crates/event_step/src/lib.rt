@@ -1,4 +1,6 @@
 // Whose turn it is, what that doer does, and the clock's own step.
+#![tactic(auto)]
+
 ghost use Rattle.std.specs.Prelude.{◌≡◌, true, ◌<◌, length};
 ghost use Rattle.model.specs.Tables.{windows};
 ghost use Rattle.model.specs.Load.{accepts};

@@ -1,4 +1,6 @@
 // What an event asks for, what an answer says, and the clock: the parts of a step that touch no port.
+#![tactic(auto)]
+
 mod answers;
 mod clock;
 mod codes;

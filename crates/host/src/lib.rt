@@ -1,6 +1,8 @@
 // What a program in C or Rust links: the kernel's public calls over numbers and byte slices. A state crosses as a buffer of one size whose
 // layout the crate `state_buffer` fixes; a buffer of another size is refused 29. include/mueanphrai.h tells the callers the same.
 // Null pointers and buffers that overlap cannot be tested here: the header says what a caller owes.
+#![tactic(auto)]
+
 ghost use Rattle.std.specs.Prelude.{◌≡◌, false, length};
 ghost use Rattle.model.specs.Run.{list_fault};
 ghost use Rattle.state_buffer.specs.Layout.{state_size};

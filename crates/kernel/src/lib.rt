@@ -1,5 +1,7 @@
 // The public calls: load, the state test, step, run, and the reader of answers. None asks anything of its caller; each does its own checking, and
 // its contract is one predicate of specs/Meets.antt for every input. Everything below this crate is internal.
+#![tactic(auto)]
+
 ghost use Rattle.std.specs.Prelude.{◌≡◌, true, ◌%◌, length};
 ghost use Rattle.model.specs.Run.{list_fault};
 ghost use Rattle.states.specs.Shown.{is_sound};

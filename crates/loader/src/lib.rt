@@ -1,5 +1,7 @@
 // The loader of 01, "Load refusals": what is wrong with a record, the first offending record, and the verdict on the caller's bytes. A
 // function's contract is an equation with the model, whose names it takes.
+#![tactic(auto)]
+
 ghost use Rattle.std.specs.Prelude.{◌-◌, ◌<◌, ◌≡◌, ◌&&◌, ltb};
 ghost use Rattle.model.specs.Tables.{records, kind, windows, ports_end};
 ghost use Rattle.model.specs.Load.{length_fault, kind_fault, count_fault, fault, first_fault, load_of};

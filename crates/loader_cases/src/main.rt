@@ -1,5 +1,7 @@
 // Runs the loader on the cases of data/cases.bin, which tests/make_table_cases.py writes, and prints each one's label and verdict.
 // A case is the label's length (1 byte), the table's length (2 bytes, low byte first), the label, and the table.
+#![tactic(auto)]
+
 use libc::STDOUT_FILENO;
 use loader::Verdict;
 

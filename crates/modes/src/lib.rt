@@ -1,4 +1,6 @@
 // SET_PARTITION_MODE: the mode, and what modes 0..2 do to the caller's ports.
+#![tactic(auto)]
+
 ghost use Rattle.std.specs.Prelude.{◌≡◌, List, ℕ, ◌<◌, length};
 ghost use Rattle.model.specs.Tables.{ports};
 ghost use Rattle.model.specs.State.{fresh};

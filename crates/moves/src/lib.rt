@@ -1,5 +1,7 @@
 // 14, TRANSMIT: the oldest message leaves a channel's source, and each destination that is created gets it.
 // "Otherwise it is lost": nothing here waits for a destination, and no answer tells what became of a message.
+#![tactic(auto)]
+
 ghost use Rattle.std.specs.Prelude.{◌≡◌, ◌<◌, ◌≤◌, length, get_or};
 ghost use Rattle.model.specs.Tables.{row, destinations, destination_port};
 ghost use Rattle.tables.specs.Shown.{row_of};

@@ -1,4 +1,6 @@
 // Own ports: a created port of the caller, of the service's mode.
+#![tactic(auto)]
+
 ghost use Rattle.std.specs.Prelude.{◌≡◌, true, ◌<◌, length, List, ℕ};
 ghost use Rattle.model.specs.Events.{known};
 ghost use Rattle.model.specs.Services.{use_own};

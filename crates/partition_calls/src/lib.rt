@@ -1,4 +1,6 @@
 // A partition's call: in IDLE 15, else the service of its code.
+#![tactic(auto)]
+
 ghost use Rattle.std.specs.Prelude.{◌<◌, length};
 ghost use Rattle.model.specs.Services.{service};
 ghost use Rattle.events.specs.Shown.{call_of};

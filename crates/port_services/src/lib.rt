@@ -1,4 +1,6 @@
 // What a port's status tells, and the services of an own port by code.
+#![tactic(auto)]
+
 ghost use Rattle.std.specs.Prelude.{◌≡◌, true, length, eqb};
 ghost use Rattle.model.specs.Words.{if◌then◌else◌};
 ghost use Rattle.model.specs.Events.{known};

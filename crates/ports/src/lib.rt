@@ -1,4 +1,6 @@
 // The ports of a state in two lent arrays, and the store of one of them taken out by value and put back.
+#![tactic(auto)]
+
 ghost use Rattle.std.specs.Prelude.{◌≡◌, ◌+◌, ◌*◌, ◌≤◌, ◌<◌, length, get_or, set, drop};
 ghost use Rattle.ports.specs.Held.{row_of, block_of, store_at, port_at, RowPut, PortPut};
 ghost use Rattle.model.specs.State.{with_queue};

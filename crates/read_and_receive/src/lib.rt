@@ -1,4 +1,6 @@
 // A message read, received or cleared at a destination port.
+#![tactic(auto)]
+
 ghost use Rattle.std.specs.Prelude.{◌≡◌, true, []};
 ghost use Rattle.model.specs.State.{Message, valid};
 ghost use Rattle.model.specs.Events.{known};

@@ -1,5 +1,7 @@
 // What is wrong with a record by itself or by the names before it: refusals 23 and 24 of 01, "Load refusals". A function's contract is an
 // equation with the model, whose names it takes.
+#![tactic(auto)]
+
 mod names;
 mod ranges;
 

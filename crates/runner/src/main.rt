@@ -1,5 +1,7 @@
 // The runner: 01, "The runner". It reads tables.bin in the current folder and events on standard input, and prints a line for each event. Only
 // reading and writing stand here: the kernel loads, and the crate `runner_text` has the text of a turn.
+#![tactic(auto)]
+
 ghost use Rattle.std.specs.Prelude.{◌^◌, ◌≤◌, ◌<◌, ◌≡◌, true, length};
 ghost use Rattle.states.specs.Shown.{is_sound};
 

@@ -1,5 +1,7 @@
 // The runner's text, over slices: 01, "The runner". Each function that writes is handed the place where its text starts, and answers the place
 // after it; bytes of `out` outside its text stay. Nothing here reads or writes a file.
+#![tactic(auto)]
+
 mod digits;
 mod records;
 mod refusals;

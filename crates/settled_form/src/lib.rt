@@ -1,4 +1,6 @@
 // A state put together: each port's numbers and messages laid into the arrays of a State, in settled form.
+#![tactic(auto)]
+
 ghost use Rattle.std.specs.Prelude.{◌≡◌, ◌+◌, length};
 ghost use Rattle.settled_form.specs.Settled.{Stored, PortLaid, PutTogether};
 

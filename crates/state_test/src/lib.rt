@@ -1,5 +1,7 @@
 // Test 29 of a state handed in: each of its numbers is in its range. The message bytes are not looked at, since a message's length is a
 // stored number; and the arrays are lent, since a State by value would be copied.
+#![tactic(auto)]
+
 ghost use Rattle.std.specs.Prelude.{◌≡◌, true, ◌<◌, ◌≤◌, length};
 ghost use Rattle.model.specs.Tables.{room};
 ghost use Rattle.model.specs.Load.{accepts};

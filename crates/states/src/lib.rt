@@ -1,4 +1,6 @@
 // A state as the caller keeps it: plain numbers, handed in and handed back by value. The state at load, and the state of zeros.
+#![tactic(auto)]
+
 ghost use Rattle.std.specs.Prelude.{◌≡◌};
 ghost use Rattle.states.specs.Shown.{at_load, all_zero};
 

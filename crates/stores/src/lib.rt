@@ -1,5 +1,7 @@
 // One port's store: up to eight messages with their lengths, a struct by value. Every stored message passes through it.
 // The slots are a ring: the oldest message is in slot `oldest`, the next in the slot after it, and after slot 7 comes slot 0.
+#![tactic(auto)]
+
 ghost use Rattle.std.specs.Prelude.{◌≡◌, ◌+◌, ◌%◌, ◌<◌, ◌≤◌, length, get_or, take, drop};
 ghost use Rattle.stores.specs.Ring.{Sized, slots, slot_size, slot_of, pasted, lettered, letter_of, no_messages, appended, oldest_of, dropped, queue_of, lay_out};
 

@@ -1,6 +1,8 @@
 // The tables of 01, "Tables": their rows, counts and channel ends, each read where it stands in the caller's bytes. Nothing is
 // collected, and nothing is judged: the crate `loader` does that. A function's contract is an equation with the model, whose names it
 // takes.
+#![tactic(auto)]
+
 mod bytes;
 mod channels;
 mod layout;

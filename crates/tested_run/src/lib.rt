@@ -1,4 +1,6 @@
 // A list of whole records under tables and a state that are tested here: test 29, and the list carried out over local arrays.
+#![tactic(auto)]
+
 ghost use Rattle.std.specs.Prelude.{◌≡◌, true, ◌≤◌, ◌%◌, length};
 ghost use Rattle.model.specs.Load.{accepts};
 ghost use Rattle.service_contracts.specs.Did.{Laid};

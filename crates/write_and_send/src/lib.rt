@@ -1,4 +1,6 @@
 // A message put into a port's store: a write replaces, a send appends or loses.
+#![tactic(auto)]
+
 ghost use Rattle.std.specs.Prelude.{◌≡◌, true, ◌≤◌, length};
 ghost use Rattle.model.specs.State.{with_queue, offer};
 ghost use Rattle.model.specs.Events.{known};
