@@ -2,12 +2,8 @@
 -- Assumes nothing.
 use mathlib.Core.Path.{refl}
 use Rattle.stores.specs.Ring.{no_messages}
-use Rattle.stores.proofs.empty.Statement.{statement}
-use Rattle.stores.proofs.empty.Tie as tie
+use Rattle.stores.proofs.empty.Goals as goal
 
-returns : tie.Need-returns
+pub returns : goal.returns
 unfolding no_messages
 returns c = refl
-
-pub empty-spec : {M : Type 1} → statement M
-empty-spec = tie.close (tie.spec returns)
