@@ -1,0 +1,16 @@
+-- `modes::unmake_all` meets its contract: after k turns the first k rows are swept. Assumes nothing.
+use Prim.Native.Nat.{◌+◌, ◌-◌, ◌≤◌, ◌<◌}
+use mathlib.Core.Path.{◌≡◌, refl, sym, ◌∙◌, ap, subst}
+use mathlib.Core.Logic.{⊎_elim}
+use native.Mathlib.Omega.{arith}
+use lib.ListN.{length}
+use borrow.Author.Rules.{rules}
+use Rattle.model.specs.Tables.{ports, row_at}
+use Rattle.modes.proofs.Sweep.{Swept, swept_none, swept-taken, swept_kept, swept_all}
+use Rattle.modes.proofs.unmake_all.Given as goal
+
+abbrev pub invariant-loop-k : goal.invariant-loop-k
+invariant-loop-k l = (l.k ≤ ports l.t) × (length l.numbers ≡ length l.initial.numbers) × Swept l.t l.p l.k l.initial.numbers l.numbers
+
+abbrev pub decreases-loop-k : goal.decreases-loop-k
+decreases-loop-k l = l.lay.ports - l.k

@@ -1,0 +1,36 @@
+-- `port_services::status` meets its contract, by the case of the row. Assumes nothing.
+use native.Mathlib.Omega.{arith}
+use Rattle.events.specs.Shown.{told_as}
+use Rattle.ports.specs.Held.{port_at}
+use Rattle.ports.proofs.Ports.{count-is}
+use Rattle.service_contracts.proofs.Contents.{validity-is}
+use Rattle.port_services.proofs.Laws.{status-sampling, status-queuing}
+use borrow.Author.Rules.{rules}
+use Rattle.port_services.proofs.status.Goals as goal
+
+pub overflow_cast-a : goal.overflow_cast-a
+overflow_cast-a c =
+    let a = c.args in
+    let n = a.numbers.now in
+    let b = a.bytes.now in
+    record { fits = omega (arith, c.number.ensures, validity-is n b a.k, c.requires.port.judged) }
+
+pub returns-in-Sampling : goal.returns-in-Sampling
+unfolding told_as
+returns-in-Sampling c =
+    let a = c.args in
+    let n = a.numbers.now in
+    let b = a.bytes.now in
+    let q = port_at n b a.k in
+    let told = c.transfer-1.given in
+    rw (status-sampling a.row told.0.0 q told.1, validity-is n b a.k, c.number.ensures, c.done-a.ensures)
+
+pub returns-in-Queuing : goal.returns-in-Queuing
+unfolding told_as
+returns-in-Queuing c =
+    let a = c.args in
+    let n = a.numbers.now in
+    let b = a.bytes.now in
+    let q = port_at n b a.k in
+    let told = c.transfer-in-Queuing-1.given in
+    rw (status-queuing a.row told.0.0 q told.1, ← (count-is n b a.k), c.count_told.ensures, c.number-in-Queuing.ensures, c.done-a.ensures)

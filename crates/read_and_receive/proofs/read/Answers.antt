@@ -1,0 +1,59 @@
+-- `read_and_receive::read` meets its contract: 1 where the port is empty, else the message and its validity. Assumes nothing.
+use Prim.Native.Nat.{◌≤◌, ◌<◌}
+use mathlib.Core.Path.{◌≡◌, sym, ◌∙◌, ap, subst}
+use lib.ListN.{get_or, set}
+use Rattle.model.specs.State.{valid}
+use Rattle.model.specs.Answers.{told_message}
+use Rattle.model.specs.Services.{mark}
+use Rattle.tables.specs.Shown.{row_of}
+use Rattle.events.specs.Shown.{told_as}
+use Rattle.stores.specs.declared.Store.{Store}
+use Rattle.stores.specs.Ring.{slot_of, oldest_of}
+use Rattle.stores.proofs.Laws.{oldest-head}
+use Rattle.ports.specs.Held
+use Rattle.ports.specs.Held.{store_at, port_at}
+use Rattle.ports.proofs.Rows.{row_is}
+use Rattle.ports.proofs.Ports.{store-queue}
+use Rattle.ports.proofs.Marks.{put-validity}
+use Rattle.service_contracts.proofs.Contents.{sized_of, none-held, some-held, oldest-held, arrival-is}
+use Rattle.read_and_receive.proofs.Laws.{some-count}
+use Rattle.service_contracts.proofs.Refused.{kept}
+use Rattle.read_and_receive.proofs.Cases.{read_some}
+use borrow.Author.Rules.{rules}
+use Rattle.read_and_receive.proofs.read.Goals as goal
+
+pub returns-then-number-eq0 : goal.returns-then-number-eq0
+returns-then-number-eq0 c =
+    let a = c.args in
+    rw (none-held a.numbers.now a.bytes.now a.k c.number.ensures c.if-number-eq0.true) (kept c.refusal.ensures)
+
+pub returns : goal.returns
+returns c =
+    let a = c.args in
+    let n = a.numbers.now in
+    let b = a.bytes.now in
+    let q = port_at n b a.k in
+    let r = row_of a.row in
+    let found = oldest-held n b a.k c.number.ensures c.if-number-eq0.false in
+    let some = some-count n b a.k (some-held n b a.k c.number.ensures c.if-number-eq0.false) in
+    let held = store-queue n b a.k ∙ found.2 in
+    let v : c.validity-v.result ≡ mark (valid r.refresh a.time q.arrival) =
+    c.validity-v.ensures
+    ∙ ap (λ x. mark (valid x a.time c.number-2.result)) c.refresh.ensures
+    ∙ ap (λ x. mark (valid r.refresh a.time x)) (c.number-2.ensures ∙ sym (arrival-is n b a.k))
+    in
+    let l = c.oldest-l.ensures ∙ ap oldest_of c.take_store.ensures ∙ oldest-head (store_at n b a.k) some found.0 found.1 held in
+    rw (read_some r.refresh a.time q found.0 found.1 found.2)
+    (c.told_message.ensures found.0 l ∙ ap (λ x. told_as a.doer (told_message found.0 x)) v, put-validity n b a.k (mark (valid r.refresh a.time q.arrival)) (row_is c.set_number.ensures (ap (λ x. set (Held.row_of n a.k) 1 x) v)))
+
+pub oldest-l-requires-clause-count_nonzero : goal.oldest-l-requires-clause-count_nonzero
+oldest-l-requires-clause-count_nonzero c =
+    let a = c.args in
+    let some = some-count a.numbers.now a.bytes.now a.k (some-held a.numbers.now a.bytes.now a.k c.number.ensures c.if-number-eq0.false) in
+    subst (λ (st : Store). 0 < st.count) (sym c.take_store.ensures) some
+
+pub oldest-l-requires-clause-st_bound : goal.oldest-l-requires-clause-st_bound
+oldest-l-requires-clause-st_bound c =
+    let a = c.args in
+    let some = some-count a.numbers.now a.bytes.now a.k (some-held a.numbers.now a.bytes.now a.k c.number.ensures c.if-number-eq0.false) in
+    subst (λ (st : Store). get_or st.lengths (slot_of st 0) 0 ≤ 64) (sym c.take_store.ensures) ((sized_of a.numbers.now a.bytes.now a.k a.row c.requires).short 0 some)
