@@ -2,11 +2,11 @@
 -- Assumes nothing.
 use Prim.Native.Nat.{ℕ, ◌+◌}
 use mathlib.Core.Path.{◌≡◌, sym, ◌∙◌}
-use mathlib.Core.Bool.{Bool, true, false, not}
+use mathlib.Core.Bool.{Bool, true, false}
 use mathlib.Core.List.{List}
 use lib.Dec.{eqb}
 use lib.ListN.{get_or}
-use borrow.Author.Tests.{eq-eqb, ne_eqb, not-true, not-false}
+use borrow.Author.Tests.{eq-eqb, ne_eqb}
 use Rattle.model.specs.Tables.{Row}
 use Rattle.model.specs.Events.{Call}
 use Rattle.model.specs.Services.{refuses, serves, like_row, made}
@@ -23,16 +23,16 @@ module _ (numbers bytes : List ℕ) (k mode : ℕ) (r : Row) (f : Call) {x : ℕ
     uncreated : eqb (port_at numbers bytes k).created 1 ≡ false
     uncreated = ne_eqb (port_at numbers bytes k).created 1 (λ e. new (marked ∙ sym (created-is numbers bytes k) ∙ e))
 
-    pub made-unlike : not like ≡ true → made (k + 1) mode r f (port_at numbers bytes k) ≡ refuses 4
+    pub made-unlike : like ≡ false → made (k + 1) mode r f (port_at numbers bytes k) ≡ refuses 4
     unfolding made
-    made-unlike b = rw (uncreated, sym alike ∙ not-true like b)
+    made-unlike b = rw (uncreated, sym alike ∙ b)
 
-    pub made-normal : not like ≡ false → mode ≡ 3 → made (k + 1) mode r f (port_at numbers bytes k) ≡ refuses 5
+    pub made-normal : like ≡ true → mode ≡ 3 → made (k + 1) mode r f (port_at numbers bytes k) ≡ refuses 5
     unfolding made
-    made-normal b m = rw (uncreated, sym alike ∙ not-false like b, eq-eqb mode 3 m)
+    made-normal b m = rw (uncreated, sym alike ∙ b, eq-eqb mode 3 m)
 
-    pub made-done : not like ≡ false → (mode ≡ 3 → ⊥)
+    pub made-done : like ≡ true → (mode ≡ 3 → ⊥)
         → made (k + 1) mode r f (port_at numbers bytes k)
         ≡ serves (told_id (k + 1)) (record { created = 1; arrival = (port_at numbers bytes k).arrival; validity = (port_at numbers bytes k).validity; queue = (port_at numbers bytes k).queue })
     unfolding made
-    made-done b m = rw (uncreated, sym alike ∙ not-false like b, ne_eqb mode 3 m)
+    made-done b m = rw (uncreated, sym alike ∙ b, ne_eqb mode 3 m)

@@ -33,7 +33,7 @@ pub const MESSAGE_SIZE: usize = 64;
 
 const MESSAGE_AT: usize = 16;
 
-#[derive(Drop)]
+#[derive(Clone, Copy)]
 pub struct Answer {
     pub code: u8,
     pub doer: u8,

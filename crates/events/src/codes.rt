@@ -7,7 +7,7 @@ use tables::{DESTINATION, QUEUING, SAMPLING, SOURCE, word16, word32};
 
 // What a code needs: the port's mode (0 sampling, 1 queuing, 2 either), its direction (0 source, 1 destination, 2 either),
 // and who may do it (0 a partition, 1 the scheduler, 2 a mover).
-#[derive(Drop)]
+#[derive(Clone, Copy)]
 pub struct CodeRow {
     pub mode: u8,
     pub direction: u8,
@@ -190,7 +190,7 @@ pub fn directed(code: u8, direction: u8) -> bool
 }
 
 // The fields of a call.
-#[derive(Drop)]
+#[derive(Clone, Copy)]
 pub struct Fields {
     pub code: u8,
     // byte 1: direction or new mode
@@ -204,7 +204,7 @@ pub struct Fields {
 }
 
 // An event is a clock step, a partition's call, a move of a channel, or a record of no known code.
-#[derive(Drop)]
+#[derive(Clone, Copy)]
 pub enum Asked {
     Clock,
     Call(Fields),

@@ -8,7 +8,7 @@ use record_fields::LONGEST_MESSAGE;
 use tables::word32;
 
 // Where a stretch of the answers starts, and its length.
-#[derive(Drop)]
+#[derive(Clone, Copy)]
 pub struct Stretch {
     pub from: usize,
     pub size: usize,

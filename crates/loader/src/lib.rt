@@ -41,7 +41,7 @@ pub const END_REFUSED: u8 = 25;
 pub const NO_WINDOW: u8 = 26;
 
 // What a load says of tables. `verdict_of` of specs/Shown.antt gives the paper's number and record for each case.
-#[derive(Drop)]
+#[derive(Clone, Copy)]
 pub enum Verdict {
     Accepted,
     // the number of the refusal, 20 to 26, and the first offending record, counted from 0

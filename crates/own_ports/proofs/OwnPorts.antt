@@ -81,13 +81,13 @@ module _ (t : Tables) (numbers : List ℕ) (p : ℕ) (f : Call) where
 
 -- that test as the code makes it: x is what it gave
 module _ (t : Tables) (numbers : List ℕ) (p : ℕ) (f : Call) {x : Bool} (tested : x ≡ own_at t numbers p f) where
-  pub use-refused : not x ≡ true → (time : ℕ) (e : Event) {r : Answer} → r ≡ refused_as 3 p → (bytes modes : List ℕ) → Calls t (λ s. use_own t time s p e f) p r modes numbers bytes modes numbers bytes
+  pub use-refused : x ≡ false → (time : ℕ) (e : Event) {r : Answer} → r ≡ refused_as 3 p → (bytes modes : List ℕ) → Calls t (λ s. use_own t time s p e f) p r modes numbers bytes modes numbers bytes
   unfolding use_own
-  use-refused none time e given bytes modes clock = rw (own-shown t clock modes numbers bytes p f ∙ sym tested ∙ not-true x none) (refused-does given)
+  use-refused none time e given bytes modes clock = rw (own-shown t clock modes numbers bytes p f ∙ sym tested ∙ none) (refused-does given)
 
-  module _ (owns : not x ≡ false) where
+  module _ (owns : x ≡ true) where
     is-own : own_at t numbers p f ≡ true
-    is-own = sym tested ∙ not-false x owns
+    is-own = sym tested ∙ owns
 
     -- an own port is one of the tables'
     id-between : between 1 (port_count t) f.id ≡ true

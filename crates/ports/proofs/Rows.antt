@@ -32,8 +32,8 @@ numbers-other numbers i v (suc n) at h =
 numbers-same : (numbers : List ℕ) (v n at j : ℕ) → j < n → at + j < length numbers → numbers_from (set numbers (at + j) v) n at ≡ set (numbers_from numbers n at) j v
 numbers-same numbers v zero at j h l = absurd (omega arith)
 numbers-same numbers v (suc n) at zero h l =
-    rw add-zero
-    (ap₂ (λ x xs. x ∷ xs) (get_or-set_same numbers at v 0 (omega arith)) (numbers-other numbers at v n (at + 1) (inl (omega arith))))
+    ap (λ i. numbers_from (set numbers i v) (suc n) at) (add-zero at)
+    ∙ ap₂ (λ x xs. x ∷ xs) (get_or-set_same numbers at v 0 (omega arith)) (numbers-other numbers at v n (at + 1) (inl (omega arith)))
 numbers-same numbers v (suc n) at (suc j) h l =
     ap₂ (λ x xs. x ∷ xs) (get_or-set_other numbers (at + suc j) at v 0 (λ e. omega arith))
     (ap (λ i. numbers_from (set numbers i v) n (at + 1)) (omega arith) ∙ numbers-same numbers v n (at + 1) j (omega arith) (omega arith))

@@ -3,7 +3,7 @@
 #![tactic(auto)]
 
 // How many windows, ports and channels the tables have, counted once for a call.
-#[derive(Drop)]
+#[derive(Clone, Copy)]
 pub struct Layout {
     pub windows: usize,
     pub ports: usize,

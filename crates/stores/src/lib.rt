@@ -16,14 +16,14 @@ pub const BLOCK_SIZE: usize = 512;
 pub const RING: u32 = 8;
 
 // A message on its way: its bytes, with zeros after them, and its length, at most 64.
-#[derive(Drop)]
+#[derive(Clone, Copy)]
 pub struct Letter {
     pub bytes: [u8; SLOT_SIZE],
     pub size: u32,
 }
 
 // 01: "Each port keeps up to eight messages with their lengths (a sampling port one)".
-#[derive(Drop)]
+#[derive(Clone, Copy)]
 pub struct Store {
     // eight slots of 64 bytes
     pub bytes: [u8; BLOCK_SIZE],

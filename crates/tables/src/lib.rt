@@ -81,7 +81,7 @@ pub const SOURCE: u8 = 0;
 pub const DESTINATION: u8 = 1;
 
 // "A port row is either sampling with its refresh period or queuing with its depth."
-#[derive(Drop)]
+#[derive(Clone, Copy)]
 pub enum Transfer {
     // the refresh period in ticks: 1..1,000,000 at a destination, 0 at a source
     Sampling(u32),
@@ -90,7 +90,7 @@ pub enum Transfer {
 }
 
 // A port row, decoded from its record.
-#[derive(Drop)]
+#[derive(Clone, Copy)]
 pub struct PortRow {
     // the partition that owns the port, 0..15
     pub owner: u8,

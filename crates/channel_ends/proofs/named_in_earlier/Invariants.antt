@@ -1,0 +1,18 @@
+-- `channel_ends::named_in_earlier` meets its contract. The loop's invariant: the whole search is what is left of it from q on.
+-- Assumes nothing.
+use borrow.Author.Rules.{rules}
+use Prim.Native.Nat.{ℕ, ◌+◌, ◌-◌, ◌*◌}
+use mathlib.Core.Path.{◌≡◌, ap, sym, ◌∙◌}
+use native.Mathlib.Omega.{arith}
+use Rattle.model.specs.Words.{any}
+use Rattle.model.specs.Load.{named_among}
+use Rattle.model.proofs.Searches.{any-more, any-stop, any-end}
+use Rattle.channel_ends.specs.Pieces.{named_in_earlier}
+use Rattle.channel_ends.proofs.Searched.{names}
+use Rattle.channel_ends.proofs.named_in_earlier.Given as goal
+
+abbrev pub invariant-loop-q : goal.invariant-loop-q
+invariant-loop-q l = named_in_earlier l.t l.id l.r ≡ any (names l.t l.id) (l.r - l.q) l.q
+
+abbrev pub decreases-loop-q : goal.decreases-loop-q
+decreases-loop-q l = l.r - l.q

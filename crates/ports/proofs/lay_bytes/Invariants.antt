@@ -1,0 +1,15 @@
+-- `ports::lay_bytes` meets its contract: after i turns the first i are copied. Assumes nothing.
+use Prim.Native.Nat.{◌-◌, ◌≤◌}
+use mathlib.Core.Path.{◌≡◌, refl, ◌∙◌}
+use native.Mathlib.Omega.{arith}
+use lib.ListN.{length, length-set}
+use lib.Seq.{paste, paste-zero}
+use borrow.Author.Rules.{rules}
+use Rattle.stores.proofs.Lists.{paste-pasted, paste-turn}
+use Rattle.ports.proofs.lay_bytes.Given as goal
+
+abbrev pub invariant-loop-i : goal.invariant-loop-i
+invariant-loop-i l = (l.i ≤ length l.part) × (length l.to ≡ length l.initial.to) × (l.to ≡ paste l.initial.to l.at l.part l.i)
+
+abbrev pub decreases-loop-i : goal.decreases-loop-i
+decreases-loop-i l = length l.part - l.i

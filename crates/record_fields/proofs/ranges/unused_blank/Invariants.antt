@@ -1,0 +1,17 @@
+-- `record_fields::ranges::unused_blank` meets its contract. The loop's invariant: the whole search is what is left of it from j on.
+-- Assumes nothing.
+use borrow.Author.Rules.{rules}
+use Prim.Native.Nat.{◌-◌}
+use mathlib.Core.Path.{◌≡◌, sym, ◌∙◌}
+use borrow.Author.Tests.{eq-eqb, ne_eqb}
+use Rattle.model.specs.Words.{all}
+use Rattle.model.proofs.Searches.{all_more, all-stop, all_end}
+use Rattle.record_fields.specs.Pieces.{unused_blank}
+use Rattle.record_fields.proofs.Searched.{is_unused, unused-whole}
+use Rattle.record_fields.proofs.ranges.unused_blank.Given as goal
+
+abbrev pub invariant-loop-j : goal.invariant-loop-j
+invariant-loop-j l = unused_blank l.t l.r l.count ≡ all (is_unused l.t l.r) (9 - l.j) l.j
+
+abbrev pub decreases-loop-j : goal.decreases-loop-j
+decreases-loop-j l = 9 - l.j

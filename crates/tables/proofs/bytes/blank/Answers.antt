@@ -1,0 +1,15 @@
+use borrow.Author.Rules.{rules}
+use Prim.Native.Nat.{◌-◌, ◌≤◌}
+use mathlib.Core.Path.{◌≡◌, sym, ◌∙◌}
+use native.Mathlib.Omega.{arith}
+use borrow.Author.Tests.{eq-eqb, ne_eqb}
+use Rattle.model.specs.Words.{blank}
+use Rattle.model.proofs.Searches.{all_more, all-stop, all_end}
+use Rattle.tables.proofs.Searched.{is_zero, blank-whole}
+use Rattle.tables.proofs.bytes.blank.Goals as goal
+
+pub loop-k-preserved : goal.loop-k-preserved
+loop-k-preserved c =
+    let t = c.args.t.now in
+    let at = c.loop-k in
+    (omega arith, at.invariant.1 ∙ all_more (is_zero t) _ at.k c.loop-k-test.true (eq-eqb _ _ c.if-t-k-ne0.false))
