@@ -1,0 +1,19 @@
+use borrow.Author.Rules.{rules}
+use Prim.Native.Nat.{◌-◌, ◌≤◌}
+use mathlib.Core.Path.{◌≡◌, sym, ◌∙◌, ap}
+use mathlib.Core.Bool.{true, false}
+use native.Mathlib.Omega.{arith}
+use lib.Dec.{leb}
+use lib.ListN.{length, get_or}
+use borrow.Author.Tests.{le-leb, lt-leb}
+use Rattle.model.specs.Words.{all}
+use Rattle.model.proofs.Searches.{all_more, all-stop, all_end}
+use Rattle.state_test.specs.Tested.{modes_fit}
+use Rattle.state_test.proofs.Judged.{all_placed}
+use Rattle.state_test.proofs.modes_fit.Goals as goal
+
+pub loop-p-init : goal.loop-p-init
+loop-p-init c =
+    let modes = c.args.modes.now in
+    let whole : length modes - 0 ≡ length modes = omega arith in
+    (omega arith, all_placed (λ m. leb m 3) 0 modes ∙ ap (λ n. all (λ q. leb (get_or modes q 0) 3) n 0) (sym whole))
