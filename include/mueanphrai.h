@@ -1,7 +1,7 @@
 /* Mueanphrai: the port and channel code of a small ARINC 653 kernel, for programs in C.
  *
- * Link with libhost.a, which `rt staticlib host` writes into target/staticlib. Every function is proved to give, for all
- * bytes of buffers that are there, the result and the bytes that crates/host/specs/Contracts.antt says; none of them
+ * Link with libhost.a, which `tools/staticlib` writes into target/staticlib. Every function is proved to give, for all
+ * bytes of buffers that are there, the result and the bytes that crates/host/specs/Exports.antt says; none of them
  * allocates, keeps anything between calls, or touches a byte outside the buffers it is lent.
  *
  * What the caller owes, since no function can test it:

@@ -1,81 +1,95 @@
-"""The must-fail edits, what the logs of a run say of each, and the rows of docs/EDITS.md that follow from both.
+"""The must-fail edits, what `rt ci` says of each, and the rows of docs/EDITS.md that follow from both.
 
-tests/list-edits writes the page from these rows, and tests/check-edits compares the page with them.
+`rt ci` has a line for each edit, also for one that an earlier run tried: how it ended, and the first thing that the check said against it.
+tests/list-edits writes the page from these lines, and tests/check-edits compares the page with them.
 """
 import pathlib
 import re
 
 ROOT = pathlib.Path(__file__).resolve().parent.parent
+LOG = ROOT / "target" / "log" / "rt-ci"
 PAGE = ROOT / "docs" / "EDITS.md"
 COLUMNS = ("Edit", "What stands there", "What it becomes", "First refused at")
 HEAD = """# Edits that the check must refuse
 
 Each edit makes the code or a definition wrong in one place and keeps its shape; the gate tries every one of them. The last column is the
-declaration at which the check first refuses it, read from the edit's log: a need of the function's proof (`returns`: what the function
-ensures; others are named after the call or the test they belong to), a law, or a theorem. A function name there has no written proof: its
-needs are searched for, and the named one is no longer found. `tests/list-edits` writes this page from the logs of a run, and `tests/check-edits`
-fails where the page says something else than the logs of the gate's own run, or an edit only made the text of a proof unfit.
+declaration at which the check first refuses it, as `rt ci` says: a law, a theorem, or an answer in a function's `Answers.antt`, which bears
+the name of its goal (`returns..`: what the function ensures; others are named after the call or the test they belong to). Where it is a
+function, the goal that is no longer proved stands behind it. `tests/list-edits` writes this page from what a run said, and
+`tests/check-edits` fails where the page says something else than the gate's own run, or an edit only made the text of a proof unfit.
 """
 
-# what a first error says where the edit has made the text of a proof unfit for the code, and no fact is seen to fail
+# what the first words say where the edit has made the text of a proof unfit for the code, and no fact is seen to fail
 UNFIT = {
     r"that can be named from here": "a name that is no longer there",
     r"^`[^`]+` is not in scope": "an unknown name",
-    r"^expected type `[\w.]*Need-[^`]*`, but this has type `[\w.]*Need-": "answers that are not those of the needs",
     r"\bno occurrence of\b": "a rewrite that found nothing",
     r"\bno part of the goal\b": "a rewrite that found nothing",
 }
+REFUSED = "refused, as it must be"
+LIMIT = "(only by a limit of the prover"
+SAID = re.compile(r"(note: )?(?:\./)?((?:src|specs|proofs)/\S+?)\.(antt|rt):(\d+):\d+: (?:error: |note: )?(?:`([^`]+)`: ?)?(.*)")
 
 
-def log_folders(names):
-    """The folders given, or the one in which `rt ci` and `rt must-fail` leave their logs."""
-    return [pathlib.Path(name) for name in names] or [ROOT / "target" / "must-fail"]
+def lines_of(names):
+    """What was said of each edit, by crate and edit, in the logs given or in that of the gate: later ones before earlier ones."""
+    logs = [pathlib.Path(name) for name in names] or [LOG]
+    said = {}
+    for log in logs:
+        text = log.read_text(errors="replace") if log.is_file() else ""
+        for crate, edit, words in re.findall(r"^rt: must-fail (\w+)/(\S+)\.edit: (.*)$", text, re.M):
+            said[crate, edit] = words
+    return said
 
 
 def edits():
     """Each crate that has edits, with their files, in the order of crates.txt."""
-    crates = re.findall(r"^(\w+):", (ROOT / "crates.txt").read_text(), re.M)
+    crates = re.findall(r"^(\w+)[^:#\n]*:", (ROOT / "crates.txt").read_text(), re.M)
     found = ((crate, sorted((ROOT / "crates" / crate / "must-fail").glob("*.edit"))) for crate in crates)
     return [(crate, files) for crate, files in found if files]
 
 
-def log_of(folders, crate, edit):
-    """What the check of the edit said: later folders before earlier ones; nothing where it was not tried."""
-    logs = [folder / crate / edit.stem / ".log" for folder in reversed(folders)]
-    return next((log.read_text(errors="replace") for log in logs if log.is_file()), None)
+def against(words):
+    """What the check first said against the edit; nothing where it was not refused, or only for a name that the edit took away."""
+    found = re.match(rf"{REFUSED}(?: \((?!only because a proof file)[^:]*(?:: [^:]*)?\))?: (.*)", words)
+    return found and found[1]
 
 
-def errors(log):
-    """File, declaration and message of each error; a text that cannot be read has no declaration.
-    An error that only says that something it cites was not admitted is none of its own."""
-    found = []
-    for match in re.finditer(r"^\S*?/((?:proofs|specs)/\S+?)\.antt:\d+:\d+: error: (?:`([^`]+)`: ?)?(.*(?:\n[ \t].*)?)", log, re.M):
-        file, declaration, message = match.groups()
-        message = message.split("\n")[0].strip() or message.strip()
-        if not re.match(r"`[^`]+` was not admitted", message):
-            found.append((file, declaration, message))
-    return found
+def declaration_at(crate, file, ending, line):
+    """The function, or the declaration at the left edge, in which a line stands."""
+    text = (ROOT / "crates" / crate / f"{file}.{ending}").read_text().split("\n")[: int(line)]
+    head = r"\s*(?:pub )?(?:extern \"C\" )?fn (\w+)" if ending == "rt" else r"(?:(?:pub|abbrev|unfoldable) )*(?:record |data )?([^\s(){}:]+) .*:"
+    return next((found[1] for found in (re.match(head, it) for it in reversed(text)) if found), None)
 
 
-def refused_at(log):
-    """The declaration of the first error, its file and nothing, or of a function without a written proof its name, its file and the need
-    that is no longer found; nothing where the log names no place."""
-    for file, declaration, _ in errors(log):
-        if declaration:
-            return declaration, file, ""
-    note = re.search(r"^note: \S*?/(src/\S+?)\.rt:\d+:\d+: .*\(`([^`]+)`\)", log, re.M)
-    function = re.search(r"^fn \w+::(\S+): no proof", log, re.M)
-    return (function.group(1).split("::")[-1], note.group(1), f": {note.group(2)}") if note and function else None
+def refused_at(crate, words):
+    """The declaration of the first error, its file and nothing, or the function in which a goal is not proved, its file and the goal;
+    nothing where no place is named."""
+    found = SAID.match(against(words) or "")
+    if not found:
+        return None
+    note, file, ending, line, declaration, message = found.groups()
+    if declaration and not note:
+        return declaration, file, ""
+    name = declaration_at(crate, file, ending, line)
+    goal = re.search(r"\(`([^`]+)`\)", message)
+    return name and (name, file, f": {goal[1]}" if goal else "")
 
 
-def unfit(log):
-    """Why the first error of a log shows nothing; '' where it shows a fact that fails, or where the log has no error but a note."""
-    for _, declaration, message in errors(log)[:1]:
-        reasons = [why for sign, why in UNFIT.items() if re.search(sign, message)]
-        if not declaration:
-            reasons.append("a text that cannot be read")
-        return f"{reasons[0]}: {message[:200]}" if reasons else ""
-    return ""
+def unfit(words):
+    """Why what was said shows nothing of the edit; '' where it shows a fact that fails."""
+    if not words.startswith(REFUSED):
+        return words[:200]
+    if not against(words):
+        return "a proof names what the edit took away, or nothing is said against it"
+    found = SAID.match(against(words))
+    if not found:
+        return ""
+    note, _, ending, _, declaration, message = found.groups()
+    reasons = [why for sign, why in UNFIT.items() if re.search(sign, message)]
+    if ending == "antt" and not declaration and not note:
+        reasons.append("a text that cannot be read")
+    return f"{reasons[0]}: {message}" if reasons else ""
 
 
 def short(text):
@@ -83,12 +97,16 @@ def short(text):
     return "`" + (text if len(text) <= 70 else text[:67] + "...") + "`"
 
 
-def row(crate, edit, place):
-    """The row of an edit: its first replacement, and the place of its refusal."""
+def row(crate, edit, words):
+    """The row of an edit: its first replacement, and the place of its refusal; nothing where no place is named."""
+    place = refused_at(crate, words)
+    if not place:
+        return None
     text = edit.read_text()
     old, new = (re.search(rf"^{key}: ?(.*)$", text, re.M).group(1) for key in ("old", "new"))
-    name, file, need = place
-    return f"| `{edit.stem}` | {short(old)} | {short(new)} | `{name}` ({crate}/{file}){need} |"
+    name, file, goal = place
+    limit = ", by a limit of the prover" if LIMIT in words else ""
+    return f"| `{edit.stem}` | {short(old)} | {short(new)} | `{name}` ({crate}/{file}){goal}{limit} |"
 
 
 def section(crate, rows):

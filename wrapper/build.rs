@@ -1,5 +1,5 @@
 //! Says where the archive libhost.a stands: in the folder that MUEANPHRAI_LIB names, else where
-//! `rt staticlib host` writes it. A changed archive is linked again. Where it is missing, a warning
+//! `tools/staticlib` writes it. A changed archive is linked again. Where it is missing, a warning
 //! says what to do: checking and documenting go on without it, linking ends with rustc's error.
 
 use std::env;
@@ -20,7 +20,7 @@ fn main() {
             archive.display()
         );
         println!(
-            "cargo:warning=`rt staticlib host` in the repository's root writes it; or let \
+            "cargo:warning=`tools/staticlib` in the repository's root writes it; or let \
              MUEANPHRAI_LIB name the folder that holds it"
         );
     }

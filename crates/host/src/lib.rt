@@ -1,6 +1,6 @@
-// What a program in C or Rust links: the kernel's public calls over numbers and byte slices. A state crosses as a buffer of one size whose
-// layout the crate `state_buffer` fixes; a buffer of another size is refused 29. include/mueanphrai.h tells the callers the same.
-// Null pointers and buffers that overlap cannot be tested here: the header says what a caller owes.
+// The kernel's public calls for other languages, over numbers and byte slices; `host_c` exports each of them. A state crosses as a buffer
+// of one size whose layout the crate `state_buffer` fixes; a buffer of another size is refused 29. include/mueanphrai.h tells the callers
+// the same. Null pointers and buffers that overlap cannot be tested here: the header says what a caller owes.
 #![tactic(auto)]
 
 ghost use Rattle.std.specs.Prelude.{◌≡◌, false, length};
@@ -13,16 +13,14 @@ use kernel::{ANSWERS_SHORT, EVENTS_LENGTH, Ran, STATE_REFUSED};
 use loader::Verdict;
 use state_buffer::STATE_SIZE;
 
-#[unsafe(no_mangle)]
-pub extern "C" fn mueanphrai_state_size() -> usize
+pub fn mueanphrai_state_size() -> usize
     ensures { result ≡ state_size }
 {
     STATE_SIZE
 }
 
 // The refusal of tables, or of a buffer that is no state's, or 0 and the state at load.
-#[unsafe(no_mangle)]
-pub extern "C" fn mueanphrai_load(tables: &[u8], state: &mut [u8]) -> u8
+pub fn mueanphrai_load(tables: &[u8], state: &mut [u8]) -> u8
     ensures { HostLoad tables.now state.old result state.new }
 {
     let loaded = kernel::load(tables);
@@ -40,8 +38,7 @@ pub extern "C" fn mueanphrai_load(tables: &[u8], state: &mut [u8]) -> u8
 }
 
 // The first offending record of tables that a load refuses, from 0; 0 where it accepts them.
-#[unsafe(no_mangle)]
-pub extern "C" fn mueanphrai_refused_record(tables: &[u8]) -> usize
+pub fn mueanphrai_refused_record(tables: &[u8]) -> usize
     ensures { HostRecord tables.now result }
 {
     let loaded = kernel::load(tables);
@@ -53,8 +50,7 @@ pub extern "C" fn mueanphrai_refused_record(tables: &[u8]) -> usize
 }
 
 // Test 29 as 1 or 0.
-#[unsafe(no_mangle)]
-pub extern "C" fn mueanphrai_in_range(tables: &[u8], state: &[u8]) -> u8
+pub fn mueanphrai_in_range(tables: &[u8], state: &[u8]) -> u8
     ensures { HostTest tables.now state.now result }
 {
     if state.len() != STATE_SIZE {
@@ -96,13 +92,7 @@ fn hand_back(ran: Ran, events: &[u8], state: &mut [u8]) -> u8
 }
 
 // A list of events, each 80 bytes.
-#[unsafe(no_mangle)]
-pub extern "C" fn mueanphrai_run(
-    tables: &[u8],
-    state: &mut [u8],
-    events: &[u8],
-    answers: &mut [u8],
-) -> u8
+pub fn mueanphrai_run(tables: &[u8], state: &mut [u8], events: &[u8], answers: &mut [u8]) -> u8
     ensures { HostRun tables.now state.old events.now answers.old result state.new answers.new }
 {
     if state.len() != STATE_SIZE {
@@ -113,13 +103,7 @@ pub extern "C" fn mueanphrai_run(
 }
 
 // One event of exactly 80 bytes.
-#[unsafe(no_mangle)]
-pub extern "C" fn mueanphrai_step(
-    tables: &[u8],
-    state: &mut [u8],
-    event: &[u8],
-    answers: &mut [u8],
-) -> u8
+pub fn mueanphrai_step(tables: &[u8], state: &mut [u8], event: &[u8], answers: &mut [u8]) -> u8
     ensures { HostStep tables.now state.old event.now answers.old result state.new answers.new }
 {
     if state.len() != STATE_SIZE {
@@ -130,15 +114,13 @@ pub extern "C" fn mueanphrai_step(
 }
 
 // Where in the answers the message of a record stands, and its length.
-#[unsafe(no_mangle)]
-pub extern "C" fn mueanphrai_message_start(answers: &[u8], number: usize) -> usize
+pub fn mueanphrai_message_start(answers: &[u8], number: usize) -> usize
     ensures { HostStart answers.now number result }
 {
     kernel::place(answers, number).from
 }
 
-#[unsafe(no_mangle)]
-pub extern "C" fn mueanphrai_message_length(answers: &[u8], number: usize) -> usize
+pub fn mueanphrai_message_length(answers: &[u8], number: usize) -> usize
     ensures { HostLength answers.now number result }
 {
     kernel::place(answers, number).size
