@@ -1,7 +1,6 @@
 -- The number of a create.
 -- Assumes nothing.
-use Rattle.std.specs.Prelude.{ℕ, eqb}
-use Rattle.model.specs.Words.{if◌then◌else◌}
+use Rattle.std.specs.Prelude.{if◌then◌else◌, ℕ, eqb}
 use Rattle.model.specs.Tables.{Row, sampling}
 
 -- the number of a create that must be like the row's: refresh period or depth

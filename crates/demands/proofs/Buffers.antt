@@ -2,6 +2,7 @@
 -- whose numbers fit the layout meets the kernel's contract on the state in the buffer, and the state after it is read from the buffer after it.
 -- So each buffer that the exported functions give holds a state that the public calls give.
 -- Assumes nothing.
+use Rattle.std.specs.Prelude.{if◌then◌else◌}
 use Prim.Native.Nat.{ℕ, ◌+◌, ◌*◌, ◌%◌, ◌≤◌, ◌<◌}
 use mathlib.Core.Path.{◌≡◌, refl, sym, ◌∙◌, ap, subst}
 use mathlib.Core.Bool.{Bool, true, false, ◌&&◌, not, true≢false}
@@ -10,7 +11,7 @@ use native.Mathlib.Omega.{arith}
 use lib.Dec.{eqb, ltb}
 use lib.ListN.{length, get_or, length-append, get_or-eq_default}
 use borrow.Author.Tests.{eq-eqb, ltb-true, ltb-false}
-use Rattle.model.specs.Words.{if◌then◌else◌, word32}
+use Rattle.model.specs.Words.{word32}
 use Rattle.model.specs.Tables.{Tables, records, windows}
 use Rattle.model.specs.Load.{Verdict, accepted, refused, fault, first_fault, length_fault, is_accepted, load_of, accepts}
 use Rattle.model.specs.Events.{event_size}

@@ -1,8 +1,8 @@
 -- The kernels that 01's last section says demand 2 shuts out, as functions of a run's input: tables, a state, event bytes and room for the answers.
 -- Each but the first is the right kernel with the one fault that 01 names. proofs/WrongKernels shows of each that the contract of run refuses it.
 -- Assumes nothing.
-use Rattle.std.specs.Prelude.{ℕ, ◌%◌, ◌&&◌, List, [], ◌∷◌, ◌++◌, eqb, length, take, drop, replicate}
-use Rattle.model.specs.Words.{if◌then◌else◌, byte, word32, bytes32}
+use Rattle.std.specs.Prelude.{if◌then◌else◌, ℕ, ◌%◌, ◌&&◌, List, [], ◌∷◌, ◌++◌, eqb, length, take, drop, replicate}
+use Rattle.model.specs.Words.{byte, word32, bytes32}
 use Rattle.model.specs.Tables.{Tables}
 use Rattle.model.specs.State as model
 use Rattle.model.specs.Events.{Event, event_size, get_queuing_port_status}

@@ -1,5 +1,6 @@
 -- The exported calls by their cases: what the kernel gave, and the size of the buffer.
 -- Assumes nothing.
+use Rattle.std.specs.Prelude.{if◌then◌else◌}
 use Prim.Native.Nat.{ℕ}
 use mathlib.Core.Path.{◌≡◌, ◌∙◌, ap₂, subst}
 use mathlib.Core.Bool.{Bool, true, false, not}
@@ -8,7 +9,6 @@ use native.Mathlib.Omega.{arith}
 use lib.Dec.{ltb}
 use lib.ListN.{length}
 use borrow.Author.Tests.{ne_eqb}
-use Rattle.model.specs.Words.{if◌then◌else◌}
 use Rattle.model.specs.Load.{accepted, refused, load_of, accepts}
 use Rattle.model.specs.Run.{list_fault}
 use Rattle.model.proofs.Tests.{by-test}

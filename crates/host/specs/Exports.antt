@@ -1,7 +1,6 @@
 -- The contracts of the exported functions: the kernel's, with the state in a buffer. Each settles the result and every lent byte.
 -- Assumes nothing.
-use Rattle.std.specs.Prelude.{ℕ, ◌%◌, ◌≡◌, Bool, ◌&&◌, not, List, eqb, length}
-use Rattle.model.specs.Words.{if◌then◌else◌}
+use Rattle.std.specs.Prelude.{if◌then◌else◌, ℕ, ◌%◌, ◌≡◌, Bool, ◌&&◌, not, List, eqb, length}
 use Rattle.model.specs.Load.{Verdict, accepted, refused, load_of, accepts}
 use Rattle.model.specs.Events.{event_size}
 use Rattle.model.specs.Answers.{stretch}

@@ -1,5 +1,6 @@
 -- Of the states that the public calls give: none is refused 29, and each shows a state that the model reaches.
 -- Assumes nothing.
+use Rattle.std.specs.Prelude.{if◌then◌else◌}
 use Prim.Native.Nat.{ℕ, ◌%◌, ◌<◌}
 use mathlib.Core.Path.{◌≡◌, sym, ◌∙◌, ap, subst}
 use mathlib.Core.Bool.{Bool, true, ◌&&◌, not}
@@ -8,7 +9,6 @@ use native.Mathlib.Omega.{arith}
 use lib.Dec.{eqb}
 use lib.ListN.{length, get_or, drop}
 use borrow.Author.Tests.{eqb-true, not-false}
-use Rattle.model.specs.Words.{if◌then◌else◌}
 use Rattle.model.specs.Tables.{Tables, row}
 use Rattle.model.specs.Tables.{ports as port_count}
 use Rattle.model.specs.Load.{accepts}

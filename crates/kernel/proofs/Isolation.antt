@@ -1,5 +1,6 @@
 -- Demand 3, carried to the code: two runs of the public call, from states that the public calls gave, whose outcomes meet the contract.
 -- Assumes nothing.
+use Rattle.std.specs.Prelude.{if◌then◌else◌}
 use Prim.Native.Nat.{ℕ, ◌<◌}
 use mathlib.Core.Path.{◌≡◌, refl, sym, ◌∙◌, ap, ap₂}
 use mathlib.Core.Bool.{true}
@@ -7,7 +8,6 @@ use mathlib.Core.List.{List, [], ◌∷◌, ◌++◌, append_assoc}
 use lib.Dec.{eqb}
 use lib.ListN.{length, take, drop}
 use lib.Seq.{take_at, drop_at}
-use Rattle.model.specs.Words.{if◌then◌else◌}
 use Rattle.model.specs.Tables.{Tables}
 use Rattle.model.specs.State as model
 use Rattle.model.specs.Events.{Event}

@@ -1,7 +1,6 @@
 -- The states that the public calls give, and what a partition finds in the answers: demand 3's words over the contracts.
 -- Assumes nothing.
-use Rattle.std.specs.Prelude.{ℕ, ◌≡◌, true, List, [], ◌∷◌, eqb, take, drop}
-use Rattle.model.specs.Words.{if◌then◌else◌}
+use Rattle.std.specs.Prelude.{if◌then◌else◌, ℕ, ◌≡◌, true, List, [], ◌∷◌, eqb, take, drop}
 use Rattle.model.specs.Tables.{Tables}
 use Rattle.model.specs.Load.{accepts}
 use Rattle.model.specs.State as model

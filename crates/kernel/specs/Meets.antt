@@ -1,8 +1,7 @@
 -- The contracts of the public calls. Each is one predicate over the bytes offered, the state handed in, the result and the lent bytes afterwards;
 -- each is a row of equations, so that any two outcomes that meet it are equal (proofs/Unique.antt).
 -- Assumes nothing.
-use Rattle.std.specs.Prelude.{ℕ, ◌%◌, ◌≡◌, Bool, ◌&&◌, not, List, ◌++◌, eqb, length, drop}
-use Rattle.model.specs.Words.{if◌then◌else◌}
+use Rattle.std.specs.Prelude.{if◌then◌else◌, ℕ, ◌%◌, ◌≡◌, Bool, ◌&&◌, not, List, ◌++◌, eqb, length, drop}
 use Rattle.model.specs.Load.{load_of, accepts}
 use Rattle.model.specs.Events.{event_size}
 use Rattle.model.specs.Answers.{stretch, handed}

@@ -1,7 +1,6 @@
 -- A piece of the model's tests that a function of its own carries out.
 -- Assumes nothing.
-use Rattle.std.specs.Prelude.{ℕ, Bool}
-use Rattle.model.specs.Words.{if◌then◌else◌}
+use Rattle.std.specs.Prelude.{if◌then◌else◌, ℕ, Bool}
 
 -- the lowest number of a record's faults, from the five tests of 21 to 25
 abbrev pub lowest : Bool → Bool → Bool → Bool → Bool → ℕ

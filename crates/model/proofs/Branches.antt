@@ -1,8 +1,8 @@
 -- Two choices by tests that agree, compared branch by branch.
 -- Assumes nothing.
+use Rattle.std.specs.Prelude.{if◌then◌else◌}
 use mathlib.Core.Path.{◌≡◌, refl}
 use mathlib.Core.Bool.{Bool, true, false, ◌&&◌, true≢false, false≢true}
-use Rattle.model.specs.Words.{if◌then◌else◌}
 
 -- they are related if their branches are
 pub if-alike :

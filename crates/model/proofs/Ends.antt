@@ -1,5 +1,6 @@
 -- Of accepted tables: how many channels there are, and what their ends are.
 -- Assumes nothing.
+use Rattle.std.specs.Prelude.{if◌then◌else◌}
 use Prim.Native.Nat.{ℕ, suc, ◌+◌, ◌-◌, ◌≤◌, ◌<◌}
 use mathlib.Core.Path.{◌≡◌, sym, ◌∙◌, subst}
 use mathlib.Core.Bool.{Bool, true, false, ◌&&◌, not}
@@ -7,7 +8,7 @@ use mathlib.Core.Logic.{◌⊎◌, ⊎_elim}
 use native.Mathlib.Omega.{arith}
 use lib.Dec.{leb, eqb}
 use borrow.Author.Tests.{leb-true, leb-false, eqb-true, eqb-false, not-false, not-true, ne_eqb}
-use Rattle.model.specs.Words.{if◌then◌else◌, between, any, all, blank}
+use Rattle.model.specs.Words.{between, any, all, blank}
 use Rattle.model.specs.Tables.{Tables, records, ports_end, ports, channels, start, row, source, destination, destinations_at, end_at, channel_record, source_port, destinations, destination_port}
 use Rattle.model.specs.Load.{accepts, channel_fits, field_fault, count_fault, end_fault, channel_ends_fit, end_fits, count_fits, named_before, named_among, ends, id_row}
 use Rattle.model.proofs.Tests.{both_left, both_right, neither_left, neither_right, between-low, between-high, three}

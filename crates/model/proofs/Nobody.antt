@@ -1,6 +1,7 @@
 -- Nobody, doer 255, never matters in the backward walk. 01 says so of the events answered 16 to 19, whose doer it is. It is a fact of accepted
 -- tables: partitions are 0 to 15, the scheduler is 32, channels are 64 to 95. So nobody hands to none, and no walk from a partition takes it in.
 -- Assumes nothing: reached states have accepted tables.
+use Rattle.std.specs.Prelude.{if◌then◌else◌}
 use Prim.Native.Nat.{ℕ, ◌+◌, ◌-◌, ◌<◌}
 use native.Mathlib.Omega.{arith}
 use mathlib.Core.Path.{◌≡◌, refl}
@@ -13,7 +14,7 @@ use Rattle.model.proofs.Conditions.{Fitting, turn-fits}
 use Rattle.model.proofs.Reached.{reached-accepted}
 use Rattle.model.proofs.Shaped.{Shaped, after-shaped, reached-shaped}
 use Rattle.model.proofs.Tests.{both_right, by-test}
-use Rattle.model.specs.Words.{if◌then◌else◌, any_in}
+use Rattle.model.specs.Words.{any_in}
 use Rattle.model.specs.Tables.{Tables, channels, row, source_port}
 use Rattle.model.specs.State.{State}
 use Rattle.model.specs.Events.{Event}

@@ -1,6 +1,7 @@
 -- Demand 3: what a partition is told and holds depends on the events that matter to it, and on what their doers held at the start.
 -- The walk, the doers and what each holds are defined in specs/Walk and specs/Flow, the step in specs/Step, reached states in specs/Run.
 -- Assumes nothing: reached states have accepted tables.
+use Rattle.std.specs.Prelude.{if◌then◌else◌}
 use Prim.Native.Nat.{ℕ, ◌<◌}
 use mathlib.Core.Path.{◌≡◌, refl, ap, sym, ◌∙◌}
 use mathlib.Core.Bool.{true}
@@ -12,7 +13,6 @@ use Rattle.model.proofs.Conditions.{machine, conditions}
 use Rattle.model.proofs.Reached.{reached-accepted}
 use Rattle.model.proofs.Shaped.{Shaped, reached-shaped}
 use Rattle.model.proofs.Unwinding.{SameRun, answers_of, end_of, unwinding}
-use Rattle.model.specs.Words.{if◌then◌else◌}
 use Rattle.model.specs.Tables.{Tables}
 use Rattle.model.specs.State.{State}
 use Rattle.model.specs.Events.{Event}

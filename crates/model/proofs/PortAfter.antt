@@ -1,5 +1,6 @@
 -- What stands at a port, and at a partition, after one port was replaced and after a mode was set.
 -- Assumes nothing.
+use Rattle.std.specs.Prelude.{if◌then◌else◌}
 use Prim.Native.Nat.{ℕ, zero, suc, ◌+◌, ◌<◌}
 use native.Mathlib.Omega.{arith}
 use mathlib.Core.Path.{◌≡◌, refl, ◌∙◌}
@@ -12,7 +13,6 @@ use lib.Seq.{get_or-set_same, get_or-set_other}
 use borrow.Author.Tests.{eqb-true, eqb-false, ne_eqb}
 use Rattle.model.proofs.Branches.{if-alike}
 use Rattle.model.proofs.Tests.{by-test}
-use Rattle.model.specs.Words.{if◌then◌else◌}
 use Rattle.model.specs.Tables.{Tables, row}
 use Rattle.model.specs.State.{Port, State, fresh, normal, mode_of, port, with_port}
 use Rattle.model.specs.Services.{unmade, with_mode}

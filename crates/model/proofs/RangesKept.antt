@@ -1,5 +1,6 @@
 -- The services keep a state in range: each leaves its port in range, and so do a mode change, a clock step and a move.
 -- Assumes nothing.
+use Rattle.std.specs.Prelude.{if◌then◌else◌}
 use Prim.Native.Nat.{ℕ, zero, suc, ◌+◌, ◌-◌, ◌≤◌, ◌<◌}
 use mathlib.Core.Path.{◌≡◌, refl, sym, ◌∙◌, ap}
 use mathlib.Core.Bool.{Bool, true, false, ◌&&◌, ◌||◌, not}
@@ -10,7 +11,7 @@ use lib.Dec.{leb, ltb, eqb, eqb-suc-zero}
 use lib.ListN.{length, get_or, set, drop, length-append, length-set, length-drop}
 use lib.Seq.{length-take-le}
 use borrow.Author.Tests.{leb-false, le-leb, ltb-true, ltb-false, eqb-false}
-use Rattle.model.specs.Words.{if◌then◌else◌, between, all_in}
+use Rattle.model.specs.Words.{between, all_in}
 use Rattle.model.specs.Tables.{Tables, windows, Row, row, room, sampling, source_port, destinations, destination_port}
 use Rattle.model.specs.Tables.{ports as port_count, channels as channel_count}
 use Rattle.model.specs.State.{Message, Port, State, fresh, normal, port, mode_of, with_queue, is_created, tick, full, offer, valid}

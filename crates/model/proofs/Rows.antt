@@ -1,5 +1,6 @@
 -- Of accepted tables: how many windows and ports there are, and the ranges of their rows.
 -- Assumes nothing.
+use Rattle.std.specs.Prelude.{if◌then◌else◌}
 use Prim.Native.Nat.{ℕ, ◌+◌, ◌-◌, ◌≤◌, ◌<◌}
 use mathlib.Core.Path.{◌≡◌, refl}
 use mathlib.Core.Bool.{Bool, true, false, ◌&&◌, ◌||◌, not, true≢false}
@@ -8,7 +9,7 @@ use native.Mathlib.Nat.{eq-or-lt_of_le}
 use native.Mathlib.Omega.{arith}
 use lib.Dec.{leb, eqb}
 use borrow.Author.Tests.{leb-true, leb-false, eqb-true, not-false, eq-eqb}
-use Rattle.model.specs.Words.{if◌then◌else◌, between, any, blank}
+use Rattle.model.specs.Words.{between, any, blank}
 use Rattle.model.specs.Tables.{Tables, windows, ports, ports_end, mover, window_partition, window_length, start, Row, row, room, port_record, name_start, same_name, sampling, queuing, source, destination}
 use Rattle.model.specs.Ranged.{RowRanges}
 use Rattle.model.specs.Load.{accepts, window_fits, row_fits, port_fits, field_fault, count_fault, name_fault, port_name_fault, same_owner_and_name, name_fits}

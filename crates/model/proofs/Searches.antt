@@ -1,5 +1,6 @@
 -- The laws of the bounded searches `any`, `all` and `first`, over any test. A search that stands at i and goes up to e has e - i numbers left: it goes one on, it stops, or it is at its end.
 -- Assumes nothing.
+use Rattle.std.specs.Prelude.{if◌then◌else◌}
 use Prim.Native.Nat.{ℕ, zero, suc, ◌+◌, ◌-◌, ◌≤◌, ◌<◌}
 use mathlib.Core.Path.{◌≡◌, refl, subst}
 use mathlib.Core.Bool.{Bool, true, false}
@@ -7,7 +8,7 @@ use mathlib.Core.Logic.{⊎_elim}
 use native.Mathlib.Nat.{eq-or-lt_of_le}
 use native.Mathlib.Numerals.{add-one}
 use native.Mathlib.Omega.{arith}
-use Rattle.model.specs.Words.{if◌then◌else◌, any, all, first}
+use Rattle.model.specs.Words.{any, all, first}
 
 -- how many are left, where there is one more, and where there is none
 rest_more : (e i : ℕ) → i < e → e - i ≡ suc (e - (i + 1))

@@ -1,6 +1,7 @@
 -- Demand 3 for any machine: four conditions of one step, and what they give for whole lists.
 -- One law, by induction on one list, compares a run with the run of its mattering events alone. The theorem uses it twice.
 -- Assumes nothing: the conditions are a record that a machine's own proofs fill.
+use Rattle.std.specs.Prelude.{if◌then◌else◌}
 use Prim.Native.Nat.{ℕ}
 use mathlib.Core.Path.{◌≡◌, refl, sym, ap, ◌∙◌}
 use mathlib.Core.Bool.{Bool, true, false, or-true}
@@ -8,7 +9,7 @@ use mathlib.Core.List.{List, [], ◌∷◌}
 use lib.Dec.{eqb}
 use borrow.Author.Tests.{eqb-true, eq-eqb}
 use Rattle.model.proofs.Tests.{neither_left, neither_right}
-use Rattle.model.specs.Words.{if◌then◌else◌, any_in}
+use Rattle.model.specs.Words.{any_in}
 use Rattle.model.specs.Walk.{is_member, matters, final_set, mattering}
 
 -- a machine: states S, events E, answers A, and what a doer holds in H. The schedulers are in every walk's set from the start

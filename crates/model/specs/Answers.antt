@@ -1,7 +1,7 @@
 -- 01, "Answers": what an answer says, its 80 bytes, and the reader.
 -- Assumes nothing.
-use Rattle.std.specs.Prelude.{ℕ, ◌+◌, ◌*◌, ◌/◌, ◌%◌, Bool, ◌&&◌, List, [], ◌∷◌, ◌++◌, leb, ltb, eqb, length, take, drop}
-use Rattle.model.specs.Words.{if◌then◌else◌, byte, word32, bytes16, bytes32, zeros, filled}
+use Rattle.std.specs.Prelude.{if◌then◌else◌, ℕ, ◌+◌, ◌*◌, ◌/◌, ◌%◌, Bool, ◌&&◌, List, [], ◌∷◌, ◌++◌, leb, ltb, eqb, length, take, drop}
+use Rattle.model.specs.Words.{byte, word32, bytes16, bytes32, zeros, filled}
 use Rattle.model.specs.Events.{event_size}
 use Rattle.model.specs.State.{Message}
 

@@ -1,7 +1,7 @@
 -- 01, "Events": the constant table of the codes, and what an 80-byte record asks for.
 -- Assumes nothing.
-use Rattle.std.specs.Prelude.{ℕ, ◌-◌, Bool, List, [], ◌∷◌, eqb, length, get_or, take, drop}
-use Rattle.model.specs.Words.{if◌then◌else◌, between, byte, word16, word32}
+use Rattle.std.specs.Prelude.{if◌then◌else◌, ℕ, ◌-◌, Bool, List, [], ◌∷◌, eqb, length, get_or, take, drop}
+use Rattle.model.specs.Words.{between, byte, word16, word32}
 use Rattle.model.specs.Tables.{sampling, queuing, source, destination}
 
 -- an event: 80 bytes

@@ -1,7 +1,7 @@
 -- 01, calls on lists: the run over a list of 80-byte records, the one bridge from bytes to records, and the refusals 27 to 29.
 -- Assumes nothing.
-use Rattle.std.specs.Prelude.{ℕ, ◌/◌, ◌%◌, ◌≡◌, Bool, true, ◌&&◌, not, List, [], ◌∷◌, ◌++◌, ltb, eqb, length, drop}
-use Rattle.model.specs.Words.{if◌then◌else◌, cut}
+use Rattle.std.specs.Prelude.{if◌then◌else◌, ℕ, ◌/◌, ◌%◌, ◌≡◌, Bool, true, ◌&&◌, not, List, [], ◌∷◌, ◌++◌, ltb, eqb, length, drop}
+use Rattle.model.specs.Words.{cut}
 use Rattle.model.specs.Tables.{Tables}
 use Rattle.model.specs.Load.{accepts}
 use Rattle.model.specs.State.{State, loaded, in_range}

@@ -1,8 +1,8 @@
 -- 01, the services: each of codes 1 to 14 once its doer is known. Tests run in the order written.
 -- Most services look at one port of the caller: they are functions of its row and of what it keeps, and give what it keeps afterwards.
 -- Assumes nothing.
-use Rattle.std.specs.Prelude.{ℕ, zero, suc, ◌+◌, ◌-◌, Bool, true, false, ◌&&◌, ◌||◌, not, List, [], ◌∷◌, leb, ltb, eqb, length, set}
-use Rattle.model.specs.Words.{if◌then◌else◌, between, first}
+use Rattle.std.specs.Prelude.{if◌then◌else◌, ℕ, zero, suc, ◌+◌, ◌-◌, Bool, true, false, ◌&&◌, ◌||◌, not, List, [], ◌∷◌, leb, ltb, eqb, length, set}
+use Rattle.model.specs.Words.{between, first}
 use Rattle.model.specs.Tables.{Tables, ports, Row, row, port_record, name_start, same_name, sampling, queuing, source, destination, source_port, destinations, destination_port}
 use Rattle.model.specs.State.{Message, Clock, Port, State, fresh, idle, cold_start, warm_start, normal, mode_of, port, with_port, with_queue, is_created, tick, valid, offer}
 use Rattle.model.specs.Events.{Event, Need, Call, need, either, body_start, message_of}

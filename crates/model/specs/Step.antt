@@ -1,7 +1,6 @@
 -- 01, "Tests before any service": who does an event, its answer, and the state after it.
 -- Assumes nothing.
-use Rattle.std.specs.Prelude.{ℕ, ◌+◌, List, ltb, eqb}
-use Rattle.model.specs.Words.{if◌then◌else◌}
+use Rattle.std.specs.Prelude.{if◌then◌else◌, ℕ, ◌+◌, List, ltb, eqb}
 use Rattle.model.specs.Tables.{Tables, mover, window_partition, channels}
 use Rattle.model.specs.State.{State}
 use Rattle.model.specs.Events.{Event, Call, Asked, clock_step, call, move, unknown, decode}

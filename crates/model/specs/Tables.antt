@@ -1,8 +1,8 @@
 -- 01, "Tables": records of 48 bytes, windows, then ports, then channels. A row is read from the bytes where it stands; no list of rows is made.
 -- Records, windows, ports and channels are numbered from 0. A port's id is its number plus 1.
 -- Assumes nothing.
-use Rattle.std.specs.Prelude.{ℕ, suc, ◌+◌, ◌-◌, ◌*◌, ◌/◌, Bool, not, List, eqb, length}
-use Rattle.model.specs.Words.{if◌then◌else◌, first, all, byte, word16, word32}
+use Rattle.std.specs.Prelude.{if◌then◌else◌, ℕ, suc, ◌+◌, ◌-◌, ◌*◌, ◌/◌, Bool, not, List, eqb, length}
+use Rattle.model.specs.Words.{first, all, byte, word16, word32}
 
 abbrev pub Tables : Type 0
 Tables = List ℕ

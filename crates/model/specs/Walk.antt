@@ -3,8 +3,8 @@
 --     hands d x     d may hand directly to x
 -- A set of doers is a list of their numbers; a number may stand in it twice.
 -- Assumes nothing.
-use Rattle.std.specs.Prelude.{ℕ, Bool, ◌||◌, List, [], ◌∷◌, eqb}
-use Rattle.model.specs.Words.{if◌then◌else◌, any_in}
+use Rattle.std.specs.Prelude.{if◌then◌else◌, ℕ, Bool, ◌||◌, List, [], ◌∷◌, eqb}
+use Rattle.model.specs.Words.{any_in}
 
 abbrev pub is_member : ℕ → List ℕ → Bool
 is_member d members = any_in (eqb d) members

@@ -1,11 +1,11 @@
 -- What the proofs of a port's status lean on.
 -- Assumes nothing.
+use Rattle.std.specs.Prelude.{if◌then◌else◌}
 use Prim.Native.Nat.{ℕ}
 use mathlib.Core.Path.{◌≡◌}
 use mathlib.Core.List.{[]}
 use lib.ListN.{length}
 use lib.Dec.{eqb}
-use Rattle.model.specs.Words.{if◌then◌else◌}
 use Rattle.model.specs.State.{Port}
 use Rattle.model.specs.Services.{status}
 use Rattle.tables.specs.Shown.{row_of}

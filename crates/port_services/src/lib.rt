@@ -1,8 +1,7 @@
 // What a port's status tells, and the services of an own port by code.
 #![tactic(auto)]
 
-ghost use Rattle.std.specs.Prelude.{◌≡◌, true, length, eqb};
-ghost use Rattle.model.specs.Words.{if◌then◌else◌};
+ghost use Rattle.std.specs.Prelude.{if◌then◌else◌, ◌≡◌, true, length, eqb};
 ghost use Rattle.model.specs.Events.{known};
 ghost use Rattle.model.specs.Services.{status, serve};
 ghost use Rattle.tables.specs.Shown.{row_of};

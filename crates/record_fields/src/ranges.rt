@@ -1,6 +1,6 @@
 // Refusal 23: a field outside its range, or a byte outside a port's name that should be zero. The fields are read as they stand.
-ghost use Rattle.std.specs.Prelude.{◌<◌, ◌≡◌, ◌&&◌, ◌||◌, leb, eqb};
-ghost use Rattle.model.specs.Words.{if◌then◌else◌, between};
+ghost use Rattle.std.specs.Prelude.{if◌then◌else◌, ◌<◌, ◌≡◌, ◌&&◌, ◌||◌, leb, eqb};
+ghost use Rattle.model.specs.Words.{between};
 ghost use Rattle.model.specs.Tables.{records, mover, sampling, queuing, destination, row_at};
 ghost use Rattle.model.specs.Load.{window_fits, row_fits, port_fits, channel_fits, field_fault};
 ghost use Rattle.record_fields.specs.Pieces.{unused_blank};

@@ -1,12 +1,12 @@
 -- Turns that meet their contract, one after another, print the text of the whole input, and after a load that is accepted all of the output.
 -- Assumes nothing.
+use Rattle.std.specs.Prelude.{if◌then◌else◌}
 use Prim.Native.Nat.{ℕ, suc, ◌*◌}
 use mathlib.Core.Path.{◌≡◌, sym, ap, ◌∙◌}
 use mathlib.Core.Bool.{true}
 use mathlib.Core.List.{List, ◌++◌}
 use lib.ListN.{take, drop, take-append-drop}
 use lib.Seq.{length-take-le}
-use Rattle.model.specs.Words.{if◌then◌else◌}
 use Rattle.model.specs.Load.{accepted, load_of, accepts, is_accepted}
 use Rattle.model.specs.State.{loaded}
 use Rattle.states.specs.declared.State.{State}

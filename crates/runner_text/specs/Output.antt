@@ -1,7 +1,6 @@
 -- 01, "The runner": all that the runner prints, from the bytes of tables.bin and those of standard input; and the same with the input taken in turns.
 -- Assumes nothing.
-use Rattle.std.specs.Prelude.{ℕ, zero, suc, ◌*◌, ◌/◌, ◌%◌, List, [], ◌++◌, eqb, length, take, drop}
-use Rattle.model.specs.Words.{if◌then◌else◌}
+use Rattle.std.specs.Prelude.{if◌then◌else◌, ℕ, zero, suc, ◌*◌, ◌/◌, ◌%◌, List, [], ◌++◌, eqb, length, take, drop}
 use Rattle.model.specs.Tables.{Tables}
 use Rattle.model.specs.Load.{Verdict, accepted, refused, load_of}
 use Rattle.model.specs.State.{State, loaded}

@@ -1,7 +1,7 @@
 -- 01, "The runner": the text of a line, of the two refusals, and how a list's bytes are split into records.
 -- Assumes nothing.
-use Rattle.std.specs.Prelude.{ℕ, zero, suc, ◌+◌, ◌*◌, ◌/◌, ◌%◌, Bool, ◌&&◌, ◌||◌, List, [], ◌∷◌, ◌++◌, ltb, leb, eqb, take, drop}
-use Rattle.model.specs.Words.{if◌then◌else◌, byte, word16, word32}
+use Rattle.std.specs.Prelude.{if◌then◌else◌, ℕ, zero, suc, ◌+◌, ◌*◌, ◌/◌, ◌%◌, Bool, ◌&&◌, ◌||◌, List, [], ◌∷◌, ◌++◌, ltb, leb, eqb, take, drop}
+use Rattle.model.specs.Words.{byte, word16, word32}
 use Rattle.model.specs.Events.{event_size}
 use Rattle.model.specs.Answers.{handed}
 

@@ -1,7 +1,6 @@
 -- What the code's values show of the model: the mode of a port with what belongs to it, and a port row.
 -- Assumes nothing.
-use Rattle.std.specs.Prelude.{ℕ, eqb}
-use Rattle.model.specs.Words.{if◌then◌else◌}
+use Rattle.std.specs.Prelude.{if◌then◌else◌, ℕ, eqb}
 use Rattle.model.specs.Tables.{sampling, queuing, Row}
 use Rattle.tables.specs.declared.Transfer.{Transfer}
 use Rattle.tables.specs.declared.Transfer.TheVariants.{Sampling, Queuing}

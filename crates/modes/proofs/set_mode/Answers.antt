@@ -10,7 +10,7 @@ use Rattle.service_contracts.proofs.Acts.{refused-does}
 use Rattle.modes.proofs.SetMode
 use borrow.Author.Rules.{rules}
 use Rattle.modes.proofs.set_mode.Goals as goal
-use Rattle.modes.proofs.set_mode.Goals.{then-m-eq-WARM_START, else-m-eq-WARM_START}
+use Rattle.modes.proofs.set_mode.Goals.{then-m-eq-WARM_START+else-mode-eq-COLD_START, else-m-eq-WARM_START}
 
 pub returns-then-m-gt-NORMAL : goal.returns-then-m-gt-NORMAL
 returns-then-m-gt-NORMAL c =
@@ -57,7 +57,7 @@ returns c =
     let m = c.args.m in
     let other : (eqb m 2 && eqb (get_or ms p 0) 1) ≡ false =
     elim c.if-m-eq-WARM_START.branch [
-      then-m-eq-WARM_START w ↦ rw (ne_eqb (get_or ms p 0) 1 w.if-mode-eq-COLD_START.false) (and-false (eqb m 2))
+      then-m-eq-WARM_START+else-mode-eq-COLD_START w ↦ rw (ne_eqb (get_or ms p 0) 1 w.if-mode-eq-COLD_START.false) (and-false (eqb m 2))
       | else-m-eq-WARM_START w ↦ rw (ne_eqb m 2 w.if-m-eq-WARM_START.false)
     ]
     in

@@ -8,20 +8,19 @@ use Rattle.port_services.proofs.serve.Goals as goal
 pub returns-in-2 : goal.returns-in-2
 returns-in-2 c =
     let a = c.args in
-    rw (serve-put _ _ _ (call_of a.f) _ c.in-2.keys1) c.put.ensures
+    rw (serve-put _ _ _ (call_of a.f) _ c.in-2.is) c.put.ensures
 
 pub returns-in-3 : goal.returns-in-3
 returns-in-3 c =
     let a = c.args in
-    rw (serve-get _ _ _ (call_of a.f) _ c.in-2.keys2) c.get.ensures
+    rw (serve-get _ _ _ (call_of a.f) _ c.in-3.is) c.get.ensures
 
 pub returns-in-11 : goal.returns-in-11
 returns-in-11 c =
     let a = c.args in
-    rw (serve-clear _ _ _ (call_of a.f) _ c.in-2.keys3) c.clear.ensures
+    rw (serve-clear _ _ _ (call_of a.f) _ c.in-11.is) c.clear.ensures
 
 pub returns-in_default : goal.returns-in_default
 returns-in_default c =
     let a = c.args in
-    let rest = c.in-2.rest in
-    rw (serve-status _ _ _ (call_of a.f) _ rest.0.0.1 rest.0.1 rest.1) (c.status.ensures, put-kept a.numbers.now a.bytes.now a.k)
+    let h = c.in_default.zzz in ?

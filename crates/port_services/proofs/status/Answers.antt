@@ -22,8 +22,7 @@ returns-in-Sampling c =
     let n = a.numbers.now in
     let b = a.bytes.now in
     let q = port_at n b a.k in
-    let told = c.transfer-1.given in
-    rw (status-sampling a.row told.0.0 q told.1, validity-is n b a.k, c.number.ensures, c.done-a.ensures)
+    rw (status-sampling a.row c.in-Sampling.refresh q c.in-Sampling.is, validity-is n b a.k, c.number.ensures, c.done-a.ensures)
 
 pub returns-in-Queuing : goal.returns-in-Queuing
 unfolding told_as
@@ -32,5 +31,4 @@ returns-in-Queuing c =
     let n = a.numbers.now in
     let b = a.bytes.now in
     let q = port_at n b a.k in
-    let told = c.transfer-in-Queuing-1.given in
-    rw (status-queuing a.row told.0.0 q told.1, ← (count-is n b a.k), c.count_told.ensures, c.number-in-Queuing.ensures, c.done-a.ensures)
+    rw (status-queuing a.row c.in-Queuing.depth q c.in-Queuing.is, ← (count-is n b a.k), c.count_told.ensures, c.number-in-Queuing.ensures, c.done-a.ensures)

@@ -1,12 +1,12 @@
 -- `record_fields::names::name_fault` meets its contract: only a port's record has a name.
 -- Assumes nothing.
+use Rattle.std.specs.Prelude.{if◌then◌else◌}
 use borrow.Author.Rules.{rules}
 use Prim.Native.Nat.{ℕ}
 use mathlib.Core.Path.{◌≡◌, refl, sym}
 use mathlib.Core.Bool.{Bool, true, false}
 use lib.Dec.{eqb}
 use borrow.Author.Tests.{ne_eqb}
-use Rattle.model.specs.Words.{if◌then◌else◌}
 use Rattle.model.specs.Load.{by_kind, name_fault}
 use Rattle.record_fields.proofs.names.name_fault.Goals as goal
 
