@@ -1,4 +1,7 @@
 -- `port_services::serve` meets its contract, by code. Assumes nothing.
+use mathlib.Core.Path.{◌≡◌}
+use mathlib.Core.Logic.{◌⊎◌}
+use native.Mathlib.Omega.{arith}
 use Rattle.events.specs.Shown.{call_of}
 use Rattle.ports.proofs.Ports.{put-kept}
 use Rattle.port_services.proofs.Cases.{serve-put, serve-get, serve-clear, serve-status}
@@ -23,4 +26,7 @@ returns-in-11 c =
 pub returns-in_default : goal.returns-in_default
 returns-in_default c =
     let a = c.args in
-    let h = c.in_default.zzz in ?
+    let other : (a.f.code ≡ 2) ⊎ (a.f.code ≡ 7) → ⊥ = search rules in
+    let way : (a.f.code ≡ 3) ⊎ (a.f.code ≡ 8) → ⊥ = assumption in
+    let none : a.f.code ≡ 11 → ⊥ = omega arith in
+    rw (serve-status _ _ _ (call_of a.f) _ other way none) (c.status.ensures, put-kept a.numbers.now a.bytes.now a.k)
