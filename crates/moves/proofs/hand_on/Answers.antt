@@ -1,0 +1,27 @@
+-- `moves::hand_on` meets its contract: the row that is read is the destination's own. Assumes nothing.
+use native.Mathlib.Omega.{arith}
+use Rattle.stores.specs.Ring.{written, lettered}
+use Rattle.moves.proofs.Channels.{few-records, first-channel, its-record, few-destinations, its-row, destination-fits, handed}
+use borrow.Author.Rules.{rules}
+use Rattle.moves.proofs.hand_on.Goals as goal
+
+pub overflow_add-lay : goal.overflow_add-lay
+overflow_add-lay c =
+    let a = c.args in
+    omega (arith, few-records c.requires.held a.c c.requires.c_lt_channels.0)
+
+pub overflow_add-lay-2 : goal.overflow_add-lay-2
+overflow_add-lay-2 c =
+    let a = c.args in
+    omega (arith, its-row c.requires.held a.c c.requires.c_lt_channels.0 a.j c.requires.c_lt_channels.1 c.destination_port-k.ensures, c.«?good».0)
+
+pub port_row-row-requires : goal.port_row-row-requires
+port_row-row-requires c =
+    let a = c.args in
+    its-row c.requires.held a.c c.requires.c_lt_channels.0 a.j c.requires.c_lt_channels.1 c.destination_port-k.ensures
+
+pub returns : goal.returns
+returns c =
+    let a = c.args in
+    handed c.requires.held a.c c.requires.c_lt_channels.0 a.j c.requires.c_lt_channels.1 a.time (written (lettered a.letter.now a.size))
+    c.destination_port-k.ensures c.port_row-row.ensures c.arrive.ensures
