@@ -2,74 +2,83 @@
 // A case is the label's length (1 byte), the table's length (2 bytes, low byte first), the label, and the table.
 #![tactic(auto)]
 
-use libc::STDOUT_FILENO;
-use loader::Verdict;
+ghost use Rattle.std.specs.Prelude.{◌≤◌, length, IfOk};
 
-fn print_verdict(verdict: Verdict) {
+use loader::Verdict;
+use std::io::Read;
+use std::{fs, io};
+
+fn print_verdict(rt: &impl Print, verdict: Verdict) -> io::Result<()> {
     match verdict {
-        Verdict::Accepted => {
-            io::write_all(STDOUT_FILENO, b"accepted\n");
-        }
-        Verdict::Refused(number, record) => {
-            io::print_decimal(STDOUT_FILENO, number as u64);
-            io::write_all(STDOUT_FILENO, b" ");
-            io::print_decimal(STDOUT_FILENO, record as u64);
-            io::write_all(STDOUT_FILENO, b"\n");
-        }
+        Verdict::Accepted => println!(rt; "accepted"),
+        Verdict::Refused(number, record) => println!(rt; "{number} {record}"),
     }
 }
 
-fn copy_part(fd: i32, label: &mut [u8]) {
-    let got = io::read_full(fd, label);
-    io::write_all(STDOUT_FILENO, &label[..got]);
-    io::write_all(STDOUT_FILENO, b": ");
+// Reads until the buffer is full or the file ends, and answers how many bytes came.
+fn read_full<R: Read>(file: &mut R, buffer: &mut [u8]) -> io::Result<usize>
+    ensures { IfOk result (λ got. got ≤ length buffer.new) }
+{
+    let mut got = 0;
+    while got < buffer.len() {
+        let more = file.read(&mut buffer[got..])?;
+        if more == 0 {
+            break;
+        }
+        got += more;
+    }
+    Ok(got)
+}
+
+fn copy_part<R: Read>(rt: &impl Print, file: &mut R, label: &mut [u8]) -> io::Result<()> {
+    let got = read_full(file, label)?;
+    rt.write_all(&label[..got])?;
+    rt.write_all(b": ")
 }
 
 // Reads a label of n bytes and prints it.
-fn copy_label(fd: i32, n: u8) {
+fn copy_label<R: Read>(rt: &impl Print, file: &mut R, n: u8) -> io::Result<()> {
     let mut label = [0u8; 256];
     let end = n as usize;
-    copy_part(fd, &mut label[..end]);
+    copy_part(rt, file, &mut label[..end])
 }
 
-fn judge_part(fd: i32, table: &mut [u8]) {
-    let got = io::read_full(fd, table);
-    print_verdict(loader::judge(&table[..got]));
+fn judge_part<R: Read>(rt: &impl Print, file: &mut R, table: &mut [u8]) -> io::Result<()> {
+    let got = read_full(file, table)?;
+    print_verdict(rt, loader::judge(&table[..got]))
 }
 
 // Reads a table of low + 256 * high bytes and prints the verdict on it.
-fn judge_table(fd: i32, low: u8, high: u8) {
+fn judge_table<R: Read>(rt: &impl Print, file: &mut R, low: u8, high: u8) -> io::Result<()> {
     let mut table = [0u8; 65_536];
     let end = low as usize + 256 * (high as usize);
-    judge_part(fd, &mut table[..end]);
+    judge_part(rt, file, &mut table[..end])
 }
 
 // Runs one case, and answers whether there was one.
-fn run_case(fd: i32) -> bool {
+fn run_case<R: Read>(rt: &impl Print, file: &mut R) -> io::Result<bool> {
     let mut head = [0u8; 3];
-    if io::read_full(fd, &mut head) < 3 {
-        return false;
+    if read_full(file, &mut head)? < 3 {
+        return Ok(false);
     }
-    copy_label(fd, head[0]);
-    judge_table(fd, head[1], head[2]);
-    true
+    copy_label(rt, file, head[0])?;
+    judge_table(rt, file, head[1], head[2])?;
+    Ok(true)
 }
 
 // A proved loop has to end, and nothing says that a file does: at most 10,000 cases are run.
-fn run_cases(fd: i32) {
-    let mut turns: u32 = 10_000;
-    while turns > 0 && run_case(fd) {
-        turns -= 1;
+fn run_cases<R: Read>(rt: &impl Print, file: &mut R) -> io::Result<()> {
+    for _ in 0..10_000 {
+        if !run_case(rt, file)? {
+            break;
+        }
     }
+    Ok(())
 }
 
-fn main() {
-    let path = b"cases.bin";
-    let fd = os::open_read(path);
-    if fd < 0 {
-        os::fail(path);
-        return;
+fn main(rt: HostRuntime) -> io::Result<()> {
+    match fs::open(&rt, "cases.bin") {
+        Ok(mut file) => run_cases(&rt, &mut file),
+        Err(error) => eprintln!(rt; "cases.bin: {error}"),
     }
-    run_cases(fd);
-    libc::close(fd);
 }

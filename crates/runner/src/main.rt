@@ -2,13 +2,23 @@
 // reading and writing stand here: the kernel loads, and the crate `runner_text` has the text of a turn.
 #![tactic(auto)]
 
-ghost use Rattle.std.specs.Prelude.{◌^◌, ◌≤◌, ◌<◌, ◌≡◌, true, length};
+ghost use Rattle.std.specs.Prelude.{◌^◌, ◌≤◌, ◌<◌, ◌≡◌, true, length, take, IsNone};
+ghost use Rattle.std.specs.Io.KnownBytes.{Consumes, IsAtEnd};
 ghost use Rattle.states.specs.Shown.{is_sound};
 
-use libc::{STDIN_FILENO, STDOUT_FILENO};
 use loader::Verdict;
 use runner_text::{MOST_TABLES, TURN, TURN_SIZE, TURN_TEXT};
 use states::State;
+use std::fs::Files;
+use std::io::Read;
+use std::{fs, io};
+
+// What came of a reader: how many bytes, and why no more where it failed.
+#[derive(Drop)]
+struct Came {
+    got: usize,
+    failure: Option<io::Error>,
+}
 
 // What a turn leaves: the state, and whether there may be more events.
 #[derive(Drop)]
@@ -17,116 +27,178 @@ struct Taken {
     more: bool,
 }
 
+// Tells standard error what could not be read or written, and why, in the words of the system, without the number that stands after them. Where
+// standard error cannot be written either, there is nobody to tell.
+fn tell(rt: &(impl Eprint + AllocGlobal), what: &str, failure: io::Error) {
+    let _ = match format!(in rt.alloc(); "{failure}") {
+        Ok(text) => match text.as_str().split_once(" (os error ") {
+            Some((words, _)) => eprintln!(rt; "runner: {what}: {words}"),
+            None => eprintln!(rt; "runner: {what}: {text}"),
+        },
+        Err(_) => eprintln!(rt; "runner: {what}: {failure}"),
+    };
+}
+
+// Reads until the buffer is full, the input ends or a read fails. A read that gives less than there is room for is no end.
+fn read_full<I: Read>(input: &mut I, buffer: &mut [u8]) -> Came
+    ensures within { result.got ≤ length buffer.new }
+    ensures bytes { Consumes (I.remaining input.old) (I.remaining input.new) (take result.got buffer.new) }
+    ensures end { IsNone result.failure → result.got < length buffer.new → IsAtEnd (I.remaining input.new) }
+{
+    let mut got = 0;
+    while got < buffer.len() {
+        match input.read(&mut buffer[got..]) {
+            Ok(0) => break,
+            Ok(more) => got += more,
+            Err(failure) => {
+                return Came {
+                    got,
+                    failure: Some(failure),
+                };
+            }
+        }
+    }
+    Came { got, failure: None }
+}
+
 // Reads on in a file, and answers how many bytes came.
-fn skip_some(fd: i32) -> usize
-    ensures { result ≤ 65536 }
+fn skip_some<F: Read>(file: &mut F) -> Came
+    ensures { result.got ≤ 65536 }
 {
     let mut buffer = [0u8; 65_536];
-    io::read_full(fd, &mut buffer)
+    read_full(file, &mut buffer)
 }
 
 // How many bytes are left in a file. A proved loop has to end, and nothing says that a file does: it counts its turns.
-fn rest(fd: i32) -> usize
-    ensures { result ≤ 2 ^ 63 }
+fn rest<F: Read>(file: &mut F) -> Came
+    ensures { result.got ≤ 2 ^ 63 }
 {
-    let mut length: usize = 0;
-    let mut turns: usize = 0;
-    while turns < 0x4000_0000_0000 {
-        let more = skip_some(fd);
-        if more == 0 {
-            return length;
+    let mut got: usize = 0;
+    for _ in 0..0x4000_0000_0000u64 {
+        let more = skip_some(file);
+        got += more.got;
+        if more.got == 0 || more.failure.is_some() {
+            return Came {
+                got,
+                failure: more.failure,
+            };
         }
-        length += more;
-        turns += 1;
     }
-    length
+    Came { got, failure: None }
 }
 
-// Where a file ends because it can no longer be read, as a folder cannot from its start, standard error is told why. A file that ended is
-// read once more for it: the kit's readers do not tell the one from the other.
-fn tell_unread(fd: i32) {
-    let mut byte = [0u8; 1];
-    if libc::read(fd, &mut byte) < 0 {
-        os::fail(b"runner: tables.bin");
+// Reads the start of a file, and answers the length of all of it.
+fn read_start<F: Read>(file: &mut F, t: &mut [u8]) -> Came
+    requires { length t.old ≤ 7728 }
+{
+    let start = read_full(file, t);
+    if start.failure.is_some() {
+        return start;
+    }
+    let left = rest(file);
+    Came {
+        got: start.got + left.got,
+        failure: left.failure,
+    }
+}
+
+// Where a file ended because it could no longer be read, as a folder cannot from its start, standard error is told why.
+fn tell_unread(rt: &(impl Eprint + AllocGlobal), what: &str, failure: Option<io::Error>) {
+    if let Some(failure) = failure {
+        tell(rt, what, failure);
     }
 }
 
 // Reads the start of tables.bin, and answers the file's length, or 0 where it cannot be opened; standard error is told why.
-fn read_tables(t: &mut [u8]) -> usize
+fn read_tables(rt: &(impl Files + Eprint + AllocGlobal), t: &mut [u8]) -> usize
     requires { length t.old ≤ 7728 }
 {
-    let fd = os::open_read(b"tables.bin");
-    if fd < 0 {
-        os::fail(b"runner: tables.bin");
-        return 0;
+    match fs::open(rt, "tables.bin") {
+        Ok(mut file) => {
+            let came = read_start(&mut file, t);
+            tell_unread(rt, "tables.bin", came.failure);
+            came.got
+        }
+        Err(failure) => {
+            tell(rt, "tables.bin", failure);
+            0
+        }
     }
-    let start = io::read_full(fd, t);
-    let length = start + rest(fd);
-    tell_unread(fd);
-    libc::close(fd);
-    length
 }
 
 // Writes to standard output; where that fails, standard error is told why.
-fn print(text: &[u8]) -> bool {
-    let is_written = io::write_all(STDOUT_FILENO, text);
-    if !is_written {
-        os::fail(b"runner: standard output");
+fn print(rt: &(impl Print + Eprint + AllocGlobal), text: &[u8]) -> bool {
+    match rt.write_all(text) {
+        Ok(()) => true,
+        Err(failure) => {
+            tell(rt, "standard output", failure);
+            false
+        }
     }
-    is_written
 }
 
-fn print_refusal(number: u8, place: usize) {
+fn print_refusal(rt: &(impl Print + Eprint + AllocGlobal), number: u8, place: usize) {
     let mut text = [0u8; 60];
     let end = runner_text::tables_refused(number, place, &mut text);
-    print(&text[..end]);
+    print(rt, &text[..end]);
 }
 
 // Reads at most 400 records, and prints the text of what was read. The input may go on where all of them came.
-fn take_turn(t: &[u8], state: State, turns: u64) -> Taken
-    requires { (is_sound t.now state ≡ true) × (turns < 2 ^ 54) }
+fn take_turn<I: Read>(
+    rt: &(impl Print + Eprint + AllocGlobal),
+    input: &mut I,
+    t: &[u8],
+    state: State,
+    turns: u64,
+) -> Taken
+    requires sound { is_sound t.now state ≡ true }
+    requires counted { turns < 2 ^ 54 }
     ensures { is_sound t.now result.state ≡ true }
 {
     let mut events = [0u8; TURN_SIZE];
-    let got = io::read_full(STDIN_FILENO, &mut events);
+    let came = read_full(input, &mut events);
+    tell_unread(rt, "standard input", came.failure);
     let mut text = [0u8; TURN_TEXT];
-    let turned = runner_text::turn_text(t, state, TURN * turns, &events[..got], &mut text);
+    let turned = runner_text::turn_text(t, state, TURN * turns, &events[..came.got], &mut text);
     let end = turned.end;
-    let is_written = print(&text[..end]);
+    let is_written = print(rt, &text[..end]);
     let after = turned.state;
     Taken {
         state: after,
-        more: is_written && got == TURN_SIZE,
+        more: is_written && came.got == TURN_SIZE,
     }
 }
 
 // One turn after another, to the end of the input, or of the number of turns, which no input reaches.
-fn run_all(t: &[u8], loaded: State)
+fn run_all<I: Read>(
+    rt: &(impl Print + Eprint + AllocGlobal),
+    input: &mut I,
+    t: &[u8],
+    loaded: State,
+)
     requires { is_sound t.now loaded ≡ true }
 {
     let mut state = loaded;
-    let mut turns: u64 = 0;
-    while turns < 0x40_0000_0000_0000 {
-        let taken = take_turn(t, state, turns);
+    for turns in 0..0x40_0000_0000_0000u64 {
+        let taken = take_turn(rt, input, t, state, turns);
         if !taken.more {
             return;
         }
         state = taken.state;
-        turns += 1;
     }
 }
 
-fn run_tables(t: &[u8]) {
+fn run_tables<I: Read>(rt: &(impl Print + Eprint + AllocGlobal), input: &mut I, t: &[u8]) {
     let loaded = kernel::load(t);
     let verdict = loaded.verdict;
     match verdict {
-        Verdict::Accepted => run_all(t, loaded.state),
-        Verdict::Refused(number, place) => print_refusal(number, place),
+        Verdict::Accepted => run_all(rt, input, t, loaded.state),
+        Verdict::Refused(number, place) => print_refusal(rt, number, place),
     }
 }
 
-fn main() {
+fn main(rt: HostRuntime) {
     let mut t = [0u8; MOST_TABLES];
-    let size = runner_text::loaded_length(read_tables(&mut t));
-    run_tables(&t[..size]);
+    let size = runner_text::loaded_length(read_tables(&rt, &mut t));
+    run_tables(&rt, &mut rt.stdin(), &t[..size]);
 }
