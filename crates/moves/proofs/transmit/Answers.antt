@@ -30,11 +30,10 @@ returns-then-waiting-eq0 c = unmoved c.requires.held c.args.c c.requires.c_lt_ch
 
 pub returns : goal.returns
 returns c =
-    let last = c.deliver.last in
     let counted = c.waiting.ensures in
     let some = c.if-waiting-eq0.false in
     moved c.requires.held c.args.c c.requires.c_lt_channels c.source_port-k.ensures counted some c.take_oldest-l.ensures
-    c.args.time last.1.1.0 last.1.1.1.0 c.deliver.ensures c.done.ensures
+    c.args.time c.deliver.new.numbers c.deliver.new.bytes c.deliver.ensures c.done.ensures
 
 pub source_port-k-requires-clause-first_channel_value : goal.source_port-k-requires-clause-first_channel_value
 source_port-k-requires-clause-first_channel_value c =
@@ -59,3 +58,19 @@ take_oldest-l-requires-clause-fact c =
     let counted = c.waiting.ensures in
     let some = c.if-waiting-eq0.false in
     source-some c.requires.held c.args.c c.requires.c_lt_channels found counted some
+
+pub deliver-requires-clause-held : goal.deliver-requires-clause-held
+deliver-requires-clause-held c =
+    let found = c.source_port-k.ensures in
+    let counted = c.waiting.ensures in
+    let some = c.if-waiting-eq0.false in
+    let gone = c.take_oldest-l.ensures in
+    source-held c.requires.held c.args.c c.requires.c_lt_channels found counted some gone c.take_oldest-l.auto.numbers
+
+pub deliver-requires-clause-carried : goal.deliver-requires-clause-carried
+deliver-requires-clause-carried c =
+    let found = c.source_port-k.ensures in
+    let counted = c.waiting.ensures in
+    let some = c.if-waiting-eq0.false in
+    let gone = c.take_oldest-l.ensures in
+    source-carried c.requires.held c.args.c c.requires.c_lt_channels found counted some gone
