@@ -11,7 +11,7 @@ use ports::{ALL_BYTES, ALL_NUMBERS};
 pub const PARTITIONS: usize = 16;
 
 // 01, "State and clock". Test 29 looks at every number of which a range is said here; of port rows only at those of the tables' ports.
-#[derive(Drop)]
+#[derive(Clone, Copy)]
 pub struct State {
     // the current window, 0 up to the tables' number of windows
     pub window: u32,
