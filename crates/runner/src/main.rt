@@ -151,13 +151,11 @@ fn take_turn<I: Read>(
     state: State,
     turns: u64,
 ) -> Taken
-    requires sound { is_sound t.now state ≡ true }
-    requires counted { turns < 2 ^ 54 }
+    requires { (is_sound t.now state ≡ true) × (turns < 2 ^ 54) }
     ensures { is_sound t.now result.state ≡ true }
 {
     let mut events = [0u8; TURN_SIZE];
     let came = read_full(input, &mut events);
-    tell_unread(rt, "standard input", came.failure);
     let mut text = [0u8; TURN_TEXT];
     let turned = runner_text::turn_text(t, state, TURN * turns, &events[..came.got], &mut text);
     let end = turned.end;
