@@ -1,4 +1,4 @@
-use Rattle.std.proofs.Common.{◌∷◌, [], sym, ap, ◌∙◌, arith}
+use Rattle.std.proofs.Common.{◌∷◌, [], sym, ap, arith}
 use Rattle.runner_text.proofs.Laws
 use Rattle.runner_text.proofs.digits.+digits.Goals as goal
 

@@ -2,7 +2,6 @@
 use Rattle.runner_text.proofs.Laws
 use native.Mathlib.Omega.{arith}
 use Rattle.runner_text.specs.Text.{field}
-use borrow.Author.Rules.{rules}
 use Rattle.runner_text.proofs.digits.field.Goals as goal
 
 pub returns : goal.returns

@@ -1,10 +1,4 @@
-use Prim.Native.Nat.{◌*◌, ◌-◌, ◌≤◌}
-use mathlib.Core.Path.{◌≡◌, refl, ap, ◌∙◌}
-use lib.ListN.{length, take}
-use lib.Seq.{take_all}
-use Rattle.runner_text.specs.Text.{hex}
-use Rattle.runner_text.specs.Wrote.{Wrote}
-use borrow.Author.Rules.{rules}
+use mathlib.Core.Path.{refl, ◌∙◌}
 use Rattle.runner_text.proofs.Laws
 use native.Mathlib.Omega.{arith}
 use Rattle.runner_text.proofs.digits.hex.Goals as goal

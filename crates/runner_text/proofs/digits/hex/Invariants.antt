@@ -1,13 +1,9 @@
 -- `runner_text::digits::hex` meets its contract: after i turns the first i bytes are written. Assumes nothing.
 use Prim.Native.Nat.{◌*◌, ◌-◌, ◌≤◌}
-use mathlib.Core.Path.{◌≡◌, refl, ap, ◌∙◌}
+use mathlib.Core.Path.{◌≡◌}
 use lib.ListN.{length, take}
-use lib.Seq.{take_all}
 use Rattle.runner_text.specs.Text.{hex}
 use Rattle.runner_text.specs.Wrote.{Wrote}
-use borrow.Author.Rules.{rules}
-use Rattle.runner_text.proofs.Laws
-use native.Mathlib.Omega.{arith}
 use Rattle.runner_text.proofs.digits.hex.Given as goal
 
 abbrev pub invariant-loop-i : goal.invariant-loop-i

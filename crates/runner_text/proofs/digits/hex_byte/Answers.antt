@@ -4,7 +4,6 @@ use mathlib.Core.List.{[], ◌∷◌}
 use Rattle.runner_text.proofs.Laws
 use native.Mathlib.Omega.{arith}
 use Rattle.runner_text.specs.Text.{hex_byte}
-use borrow.Author.Rules.{rules}
 use Rattle.runner_text.proofs.digits.hex_byte.Goals as goal
 
 pub returns : goal.returns

@@ -5,7 +5,6 @@ use lib.ListN.{take, drop}
 use Rattle.runner_text.specs.Text.{who, what, how, message, line, record_at}
 use Rattle.runner_text.proofs.Laws
 use native.Mathlib.Omega.{arith}
-use borrow.Author.Rules.{rules}
 use Rattle.runner_text.proofs.records.line.Goals as goal
 
 pub returns : goal.returns

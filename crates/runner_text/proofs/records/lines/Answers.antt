@@ -1,10 +1,6 @@
-use Prim.Native.Nat.{◌*◌, ◌-◌, ◌/◌, ◌≤◌}
-use mathlib.Core.Path.{◌≡◌, refl, sym, ap, ◌∙◌}
+use mathlib.Core.Path.{refl, sym, ap, ◌∙◌}
 use native.Mathlib.Numerals.{add-one}
-use lib.ListN.{length}
 use Rattle.runner_text.specs.Text.{lines}
-use Rattle.runner_text.specs.Wrote.{Wrote}
-use borrow.Author.Rules.{rules}
 use Rattle.runner_text.proofs.Laws
 use native.Mathlib.Omega.{arith}
 use Rattle.runner_text.proofs.records.lines.Goals as goal

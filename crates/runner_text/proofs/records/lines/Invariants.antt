@@ -1,13 +1,9 @@
 -- `runner_text::records::lines` meets its contract: after i turns the first i lines are written. Assumes nothing.
 use Prim.Native.Nat.{◌*◌, ◌-◌, ◌/◌, ◌≤◌}
-use mathlib.Core.Path.{◌≡◌, refl, sym, ap, ◌∙◌}
-use native.Mathlib.Numerals.{add-one}
+use mathlib.Core.Path.{◌≡◌}
 use lib.ListN.{length}
 use Rattle.runner_text.specs.Text.{lines}
 use Rattle.runner_text.specs.Wrote.{Wrote}
-use borrow.Author.Rules.{rules}
-use Rattle.runner_text.proofs.Laws
-use native.Mathlib.Omega.{arith}
 use Rattle.runner_text.proofs.records.lines.Given as goal
 
 abbrev pub invariant-loop-i : goal.invariant-loop-i

@@ -6,7 +6,6 @@ use Rattle.runner_text.specs.Text.{hex, shows_message, record_at}
 use Rattle.runner_text.proofs.Laws
 use Rattle.runner_text.proofs.Handed
 use native.Mathlib.Omega.{arith}
-use borrow.Author.Rules.{rules}
 use Rattle.runner_text.proofs.records.message.Goals as goal
 
 pub hex-requires : goal.hex-requires

@@ -2,7 +2,6 @@
 use borrow.Author.Tests.{eq-eqb, ne_eqb}
 use Rattle.model.specs.Words.{byte}
 use Rattle.runner_text.specs.Text.{shows_message}
-use borrow.Author.Rules.{rules}
 use Rattle.runner_text.proofs.records.shows_message.Goals as goal
 
 pub returns-then-answer-ne-NO_ERROR : goal.returns-then-answer-ne-NO_ERROR

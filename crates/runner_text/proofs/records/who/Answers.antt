@@ -3,7 +3,6 @@ use mathlib.Core.Path.{ap}
 use Rattle.runner_text.specs.Text.{field, who}
 use Rattle.runner_text.proofs.Laws
 use native.Mathlib.Omega.{arith}
-use borrow.Author.Rules.{rules}
 use Rattle.runner_text.proofs.records.who.Goals as goal
 
 pub returns : goal.returns

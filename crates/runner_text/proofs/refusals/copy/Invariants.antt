@@ -1,12 +1,8 @@
 -- `runner_text::refusals::copy` meets its contract: after i turns the first i bytes are written. Assumes nothing.
 use Prim.Native.Nat.{◌-◌, ◌≤◌}
-use mathlib.Core.Path.{◌≡◌, refl, ◌∙◌}
+use mathlib.Core.Path.{◌≡◌}
 use lib.ListN.{length, take}
-use lib.Seq.{take_all}
 use Rattle.runner_text.specs.Wrote.{Wrote}
-use borrow.Author.Rules.{rules}
-use Rattle.runner_text.proofs.Laws
-use native.Mathlib.Omega.{arith}
 use Rattle.runner_text.proofs.refusals.copy.Given as goal
 
 abbrev pub invariant-loop-i : goal.invariant-loop-i

@@ -1,11 +1,8 @@
 -- `runner_text::refusals::torn` meets its contract: nothing of no byte, else the refusal. Assumes nothing.
-use Prim.Native.Nat.{ℕ, zero, suc}
-use mathlib.Core.Path.{◌≡◌, refl, sym, ap}
+use mathlib.Core.Path.{sym, ap}
 use native.Mathlib.Omega.{arith}
-use Rattle.runner_text.specs.Text.{events_refused}
 use Rattle.runner_text.specs.Output.{torn_text}
 use Rattle.runner_text.proofs.Laws
-use borrow.Author.Rules.{rules}
 use Rattle.runner_text.proofs.refusals.torn.Goals as goal
 
 pub returns-then-tail-eq0 : goal.returns-then-tail-eq0

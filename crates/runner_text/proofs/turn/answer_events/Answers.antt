@@ -2,7 +2,6 @@
 use Rattle.runner_text.proofs.Laws
 use Rattle.runner_text.proofs.Answered
 use native.Mathlib.Omega.{arith}
-use borrow.Author.Rules.{rules}
 use Rattle.runner_text.proofs.turn.answer_events.Goals as goal
 
 pub returns : goal.returns

@@ -1,16 +1,14 @@
 -- `runner_text::turn::turn_text` meets its contract: the lines of the whole records, and then the broken tail. Assumes nothing.
 use Prim.Native.Nat.{◌*◌}
-use mathlib.Core.Path.{◌≡◌, sym, ap, ap₂, ◌∙◌}
+use mathlib.Core.Path.{sym, ap, ap₂, ◌∙◌}
 use mathlib.Core.List.{◌++◌}
-use lib.ListN.{length, take}
-use lib.Seq.{length-take-le}
+use lib.ListN.{take}
 use Rattle.model.specs.Run.{after_all, events_of}
 use Rattle.states.specs.Shown.{shown_state}
 use Rattle.runner_text.specs.Output.{lines_from, torn_text}
 use Rattle.runner_text.proofs.Laws
 use Rattle.runner_text.proofs.Turns
 use native.Mathlib.Omega.{arith}
-use borrow.Author.Rules.{rules}
 use Rattle.runner_text.proofs.turn.turn_text.Goals as goal
 
 pub returns : goal.returns
