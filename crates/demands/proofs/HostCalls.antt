@@ -25,7 +25,6 @@ use Rattle.model.proofs.Edges.{Edge, edges}
 use Rattle.state_test.specs.Tested.{indexed}
 use Rattle.states.specs.Shown.{shown_state, settled_as, all_zero}
 use Rattle.states.proofs.Load.{load-shown}
-use Rattle.kernel.specs.declared.Ran.{Ran}
 use Rattle.state_buffer.specs.Layout.{state_of, bytes_of}
 use Rattle.state_buffer.proofs.Round.{state-back}
 use Rattle.host.specs.Exports.{HostLoad, HostRun, HostStep}

@@ -20,7 +20,6 @@ use Rattle.model.specs.Run.{answers, after_all, events_of, joined, list_fault}
 use Rattle.model.proofs.Tests.{both}
 use Rattle.model.proofs.Computing.{computing}
 use Rattle.model.proofs.Laid.{window_row, port_row, channel_row, event, answer_row}
-use Rattle.states.specs.declared.State.{State}
 use Rattle.states.specs.Shown.{shown_state, is_sound, at_load}
 use Rattle.states.proofs.Load.{load-shown, load_fits}
 use Rattle.kernel.specs.declared.Ran.{Ran}

@@ -13,7 +13,7 @@ use Rattle.model.specs.Load.{accepts}
 use Rattle.model.specs.State.{Message, Port, State, fresh, in_range}
 use Rattle.model.specs.Events.{Event, event_size}
 use Rattle.model.specs.Step.{after}
-use Rattle.model.specs.Run.{Ran, list_fault, ran_or, step}
+use Rattle.model.specs.Run.{list_fault, ran_or, step}
 use Rattle.model.proofs.Computing.{computing, stepping}
 use Rattle.model.proofs.Laid.{window_row, port_row, channel_row, event, answer_row}
 

@@ -8,7 +8,7 @@ use native.Mathlib.Nat.{add-zero, le_refl}
 use native.Mathlib.Omega.{arith}
 use lib.Dec.{ltb, eqb}
 use borrow.Author.Tests.{ltb-false, eqb-true, eqb-false, not-true, not-false, lt-ltb}
-use Rattle.model.specs.Words.{between, first}
+use Rattle.model.specs.Words.{between}
 use Rattle.model.specs.Tables.{Tables, records, kind, windows, ports_end, ports, channels}
 use Rattle.model.specs.Load.{length_fault, kind_fault, count_fault, field_fault, name_fault, end_fault, fault, first_fault, refused, accepted, is_accepted, load_of, accepts}
 use Rattle.model.proofs.Tests.{neither_left, neither_right, between-low, between-high}

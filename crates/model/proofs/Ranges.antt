@@ -1,6 +1,6 @@
 -- Test 29 of the model's state as facts: of one port, of each port of a list, and of the state; and that putting a port in range into a state keeps them.
 -- Assumes nothing.
-use Prim.Native.Nat.{ℕ, zero, suc, ◌+◌, ◌≤◌, ◌<◌}
+use Prim.Native.Nat.{ℕ, zero, suc, ◌+◌, ◌<◌}
 use mathlib.Core.Path.{◌≡◌, refl, ◌∙◌, subst}
 use mathlib.Core.Bool.{Bool, true, false, ◌&&◌, ◌||◌}
 use mathlib.Core.List.{List, [], ◌∷◌}
@@ -10,10 +10,10 @@ use lib.Dec.{leb, ltb, eqb}
 use lib.ListN.{length, get_or, set, length-set}
 use lib.Seq.{get_or-set_same, get_or-set_other}
 use borrow.Author.Tests.{leb-true, le-leb, ltb-true, lt-ltb, eqb-true, eqb-false, eq-eqb}
-use Rattle.model.specs.Words.{between, all_in}
+use Rattle.model.specs.Words.{all_in}
 use Rattle.model.specs.Tables.{Tables, windows, Row, row, room}
 use Rattle.model.specs.Tables.{ports as port_count}
-use Rattle.model.specs.State.{Message, Port, State, fresh, partitions, normal, shortest, port, with_port, is_created, port_in_range, ports_in_range, in_range}
+use Rattle.model.specs.State.{Port, State, fresh, partitions, normal, port, with_port, is_created, port_in_range, ports_in_range, in_range}
 use Rattle.model.specs.State.{fits}
 use Rattle.model.specs.Ranged.{PortRanged, Ranged}
 use Rattle.model.proofs.Tests.{both_left, both_right, both}

@@ -10,7 +10,7 @@ use native.Mathlib.Omega.{arith}
 use lib.Dec.{leb, eqb}
 use borrow.Author.Tests.{leb-true, leb-false, eqb-true, not-false, eq-eqb}
 use Rattle.model.specs.Words.{between, any, blank}
-use Rattle.model.specs.Tables.{Tables, windows, ports, ports_end, mover, window_partition, window_length, start, Row, row, room, port_record, name_start, same_name, sampling, queuing, source, destination}
+use Rattle.model.specs.Tables.{Tables, windows, ports, ports_end, mover, window_partition, window_length, start, Row, row, room, port_record, name_start, same_name, sampling, queuing, destination}
 use Rattle.model.specs.Ranged.{RowRanges}
 use Rattle.model.specs.Load.{accepts, window_fits, row_fits, port_fits, field_fault, count_fault, name_fault, port_name_fault, same_owner_and_name, name_fits}
 use Rattle.model.proofs.Tests.{both_left, both_right, neither_right, between-low, between-high}

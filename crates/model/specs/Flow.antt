@@ -1,8 +1,8 @@
 -- Demand 3's words over the model: what each doer holds, who may hand directly to whom, the walk, and a partition's answers.
 -- Assumes nothing.
-use Rattle.std.specs.Prelude.{if◌then◌else◌, ℕ, suc, ◌+◌, ◌-◌, Bool, true, false, ◌&&◌, ◌||◌, List, [], ◌∷◌, leb, ltb, eqb}
+use Rattle.std.specs.Prelude.{if◌then◌else◌, ℕ, suc, ◌-◌, Bool, ◌&&◌, ◌||◌, List, [], ◌∷◌, leb, ltb, eqb}
 use Rattle.model.specs.Words.{any}
-use Rattle.model.specs.Tables.{Tables, ports, channels, Row, row, destination, source_port, destinations, destination_port}
+use Rattle.model.specs.Tables.{Tables, channels, Row, row, destination, source_port, destinations, destination_port}
 use Rattle.model.specs.State.{Message, Clock, Port, State, fresh, partitions, mode_of, port}
 use Rattle.model.specs.Events.{Event}
 use Rattle.model.specs.Step.{scheduler, first_channel, doer, after, answer}

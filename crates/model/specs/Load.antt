@@ -1,9 +1,9 @@
 -- 01, "Load refusals": what is wrong with a record, and the verdict on tables.
 -- Assumes nothing.
-use Rattle.std.specs.Prelude.{if◌then◌else◌, ℕ, suc, ◌+◌, ◌-◌, ◌*◌, ◌%◌, Bool, true, false, ◌&&◌, ◌||◌, not, leb, ltb, eqb, length}
+use Rattle.std.specs.Prelude.{if◌then◌else◌, ℕ, suc, ◌+◌, ◌-◌, ◌%◌, Bool, true, false, ◌&&◌, ◌||◌, not, leb, ltb, eqb, length}
 use Rattle.model.specs.Words.{between, any, all, first, byte, blank}
 use Rattle.model.specs.Tables.{Tables, record_size, records, start, kind, windows, ports_end, ports, mover, window_partition, window_length}
-use Rattle.model.specs.Tables.{sampling, queuing, source, destination, Row, row_at, port_record, row, name_length, name_start, same_name, destinations_at, end_at}
+use Rattle.model.specs.Tables.{sampling, queuing, source, destination, Row, row_at, row, name_start, same_name, destinations_at, end_at}
 
 -- 20: length 0 or not a multiple of 48
 unfoldable pub length_fault : Tables → Bool

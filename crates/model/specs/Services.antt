@@ -1,13 +1,13 @@
 -- 01, the services: each of codes 1 to 14 once its doer is known. Tests run in the order written.
 -- Most services look at one port of the caller: they are functions of its row and of what it keeps, and give what it keeps afterwards.
 -- Assumes nothing.
-use Rattle.std.specs.Prelude.{if◌then◌else◌, ℕ, zero, suc, ◌+◌, ◌-◌, Bool, true, false, ◌&&◌, ◌||◌, not, List, [], ◌∷◌, leb, ltb, eqb, length, set}
+use Rattle.std.specs.Prelude.{if◌then◌else◌, ℕ, zero, suc, ◌-◌, Bool, true, false, ◌&&◌, ◌||◌, not, List, [], ◌∷◌, ltb, eqb, length, set}
 use Rattle.model.specs.Words.{between, first}
-use Rattle.model.specs.Tables.{Tables, ports, Row, row, port_record, name_start, same_name, sampling, queuing, source, destination, source_port, destinations, destination_port}
-use Rattle.model.specs.State.{Message, Clock, Port, State, fresh, idle, cold_start, warm_start, normal, mode_of, port, with_port, with_queue, is_created, tick, valid, offer}
+use Rattle.model.specs.Tables.{Tables, ports, Row, row, port_record, name_start, same_name, sampling, source, source_port, destinations, destination_port}
+use Rattle.model.specs.State.{Message, Port, State, fresh, idle, cold_start, warm_start, normal, mode_of, port, with_port, with_queue, is_created, tick, valid, offer}
 use Rattle.model.specs.Events.{Event, Need, Call, need, either, body_start, message_of}
-use Rattle.model.specs.Events.{create_sampling_port, write_sampling_message, read_sampling_message, get_sampling_port_id, get_sampling_port_status}
-use Rattle.model.specs.Events.{create_queuing_port, send_queuing_message, receive_queuing_message, get_queuing_port_id, get_queuing_port_status, clear_queuing_port, set_partition_mode}
+use Rattle.model.specs.Events.{create_sampling_port, write_sampling_message, read_sampling_message, get_sampling_port_id}
+use Rattle.model.specs.Events.{create_queuing_port, send_queuing_message, receive_queuing_message, get_queuing_port_id, clear_queuing_port, set_partition_mode}
 use Rattle.model.specs.Answers.{Told, nothing_told, told_id, told_number, told_message, no_action, not_available, invalid_param, invalid_config, invalid_mode}
 
 -- a service refuses with a code, which changes no state, or is done: it tells something and leaves a state

@@ -1,7 +1,7 @@
 -- 01, "State and clock": the state, the state at load, the clock, a sample's age, and the ranges of test 29.
 -- Two states of one set of tables are the same, in 01's words, if they are equal here: a state holds nothing but what those words name.
 -- Assumes nothing.
-use Rattle.std.specs.Prelude.{if◌then◌else◌, ℕ, zero, suc, ◌+◌, ◌-◌, ◌^◌, ◌%◌, Bool, true, false, ◌&&◌, ◌||◌, List, [], ◌∷◌, ◌++◌, leb, ltb, eqb, length, get_or, set, replicate}
+use Rattle.std.specs.Prelude.{if◌then◌else◌, ℕ, suc, ◌+◌, ◌-◌, ◌^◌, ◌%◌, Bool, true, ◌&&◌, ◌||◌, List, [], ◌∷◌, ◌++◌, leb, ltb, eqb, length, get_or, set, replicate}
 use Rattle.model.specs.Words.{between, all_in}
 use Rattle.model.specs.Tables.{Tables, windows, window_length, Row, row, room}
 use Rattle.model.specs.Tables.{ports as port_count}

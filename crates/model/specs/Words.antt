@@ -1,6 +1,6 @@
 -- The few words in which the other files are written: tests, bounded searches, bytes and little-endian numbers.
 -- Assumes nothing.
-use Rattle.std.specs.Prelude.{if◌then◌else◌, ℕ, zero, suc, ◌+◌, ◌*◌, ◌/◌, ◌%◌, Bool, true, false, ◌&&◌, ◌||◌, not, List, [], ◌∷◌, ◌++◌, leb, eqb, get_or, take, drop, replicate}
+use Rattle.std.specs.Prelude.{if◌then◌else◌, ℕ, zero, suc, ◌+◌, ◌*◌, ◌/◌, ◌%◌, Bool, true, false, ◌&&◌, ◌||◌, List, [], ◌∷◌, ◌++◌, leb, eqb, get_or, take, drop, replicate}
 
 -- low ≤ x ≤ high
 abbrev pub between : ℕ → ℕ → ℕ → Bool

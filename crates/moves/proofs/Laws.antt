@@ -1,7 +1,7 @@
 -- What the proofs of the mover lean on, of one port: a message arrives at it, and it is put in its ranges.
 -- Channels has the laws of a channel and of the whole move.
 -- Assumes nothing.
-use Prim.Native.Nat.{ℕ, ◌≤◌, ◌<◌}
+use Prim.Native.Nat.{ℕ, ◌<◌}
 use mathlib.Core.Path.{◌≡◌, refl, sym, ◌∙◌, ap}
 use mathlib.Core.Bool.{Bool, true, false, ◌||◌}
 use mathlib.Core.List.{List, ◌∷◌}
@@ -17,8 +17,6 @@ use Rattle.model.specs.Services.{stored, arrived}
 use Rattle.model.proofs.Tests.{both_right}
 use Rattle.model.specs.State.{fits}
 use Rattle.model.specs.Ranged.{PortRanged}
-use Rattle.tables.specs.Shown.{row_of}
-use Rattle.tables.specs.declared.PortRow.{PortRow}
 use Rattle.ports.specs.Held
 use Rattle.ports.specs.Held.{port_at, RowPut, PortPut}
 use Rattle.ports.proofs.Marks.{put-arrival}

@@ -1,7 +1,7 @@
 -- A state as bytes, in a buffer of one size: window, time, sixteen modes, the 832 numbers of the port rows, the message bytes.
 -- Each number that is wider than a byte is four bytes, low byte first.
 -- Assumes nothing.
-use Rattle.std.specs.Prelude.{ℕ, zero, suc, ◌+◌, ◌*◌, List, [], ◌∷◌, ◌++◌, take, drop}
+use Rattle.std.specs.Prelude.{ℕ, zero, suc, ◌+◌, List, [], ◌∷◌, ◌++◌, take, drop}
 use Rattle.model.specs.Words.{word32, bytes32}
 use Rattle.states.specs.declared.State.{State}
 

@@ -1,6 +1,5 @@
 -- `channel_ends::channel_ends_fit` meets its contract: each test is a part of the definition, in its order.
 -- Assumes nothing.
-use borrow.Author.Rules.{rules}
 use mathlib.Core.Path.{ap}
 use mathlib.Core.Bool.{not}
 use Rattle.model.specs.Load.{channel_ends_fit}

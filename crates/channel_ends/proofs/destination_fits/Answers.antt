@@ -1,6 +1,5 @@
 -- `channel_ends::destination_fits` meets its contract: `destination-end` says the test of an end that has a row.
 -- Assumes nothing.
-use borrow.Author.Rules.{rules}
 use mathlib.Core.Path.{sym, ◌∙◌}
 use native.Mathlib.Omega.{arith}
 use Rattle.model.specs.Load.{end_fits}

@@ -1,13 +1,8 @@
-use borrow.Author.Rules.{rules}
-use Prim.Native.Nat.{◌+◌, ◌-◌, ◌*◌, ◌≤◌}
-use mathlib.Core.Path.{◌≡◌, sym, ◌∙◌}
+use mathlib.Core.Path.{◌∙◌}
 use native.Mathlib.Omega.{arith}
-use Rattle.model.specs.Words.{all}
-use Rattle.model.specs.Load.{ends, end_fits}
-use Rattle.model.proofs.Searches.{all_more, all-stop, all_end}
-use Rattle.channel_ends.specs.Pieces.{destinations_fit}
-use Rattle.tables.proofs.Answers.{fails, holds}
-use Rattle.channel_ends.proofs.Searched.{destinations-whole}
+use Rattle.model.specs.Load.{end_fits}
+use Rattle.model.proofs.Searches.{all_more}
+use Rattle.tables.proofs.Answers.{holds}
 use Rattle.channel_ends.proofs.destinations_fit.Goals as goal
 
 pub loop-j-preserved : goal.loop-j-preserved

@@ -1,15 +1,10 @@
 -- `channel_ends::destinations_fit` meets its contract. The loop's invariant: the whole search is what is left of it from j on.
 -- Assumes nothing.
-use borrow.Author.Rules.{rules}
-use Prim.Native.Nat.{◌+◌, ◌-◌, ◌*◌, ◌≤◌}
-use mathlib.Core.Path.{◌≡◌, sym, ◌∙◌}
-use native.Mathlib.Omega.{arith}
+use Prim.Native.Nat.{◌-◌, ◌≤◌}
+use mathlib.Core.Path.{◌≡◌}
 use Rattle.model.specs.Words.{all}
 use Rattle.model.specs.Load.{ends, end_fits}
-use Rattle.model.proofs.Searches.{all_more, all-stop, all_end}
 use Rattle.channel_ends.specs.Pieces.{destinations_fit}
-use Rattle.tables.proofs.Answers.{fails, holds}
-use Rattle.channel_ends.proofs.Searched.{destinations-whole}
 use Rattle.channel_ends.proofs.destinations_fit.Given as goal
 
 abbrev pub invariant-loop-j : goal.invariant-loop-j

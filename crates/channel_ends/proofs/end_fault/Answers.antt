@@ -1,6 +1,5 @@
 -- `channel_ends::end_fault` meets its contract: only a channel's record has ends.
 -- Assumes nothing.
-use borrow.Author.Rules.{rules}
 use mathlib.Core.Path.{ap}
 use mathlib.Core.Bool.{not}
 use borrow.Author.Tests.{ne_eqb}

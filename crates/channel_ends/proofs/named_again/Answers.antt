@@ -1,11 +1,6 @@
-use borrow.Author.Rules.{rules}
-use Prim.Native.Nat.{◌+◌, ◌-◌, ◌*◌}
-use mathlib.Core.Path.{◌≡◌, sym, ◌∙◌}
-use native.Mathlib.Omega.{arith}
-use Rattle.model.specs.Words.{any}
-use Rattle.model.specs.Load.{ends, named_before}
-use Rattle.model.proofs.Searches.{any-more, any-stop, any-end}
-use Rattle.channel_ends.specs.Pieces.{named_again}
+use mathlib.Core.Path.{sym, ◌∙◌}
+use Rattle.model.specs.Load.{named_before}
+use Rattle.model.proofs.Searches.{any-more}
 use Rattle.channel_ends.proofs.Searched.{again-whole}
 use Rattle.channel_ends.proofs.named_again.Goals as goal
 

@@ -1,14 +1,10 @@
 -- `channel_ends::named_again` meets its contract. The loop's invariant: the whole search is what is left of it from j on.
 -- Assumes nothing.
-use borrow.Author.Rules.{rules}
-use Prim.Native.Nat.{◌+◌, ◌-◌, ◌*◌}
-use mathlib.Core.Path.{◌≡◌, sym, ◌∙◌}
-use native.Mathlib.Omega.{arith}
+use Prim.Native.Nat.{◌-◌}
+use mathlib.Core.Path.{◌≡◌}
 use Rattle.model.specs.Words.{any}
 use Rattle.model.specs.Load.{ends, named_before}
-use Rattle.model.proofs.Searches.{any-more, any-stop, any-end}
 use Rattle.channel_ends.specs.Pieces.{named_again}
-use Rattle.channel_ends.proofs.Searched.{again-whole}
 use Rattle.channel_ends.proofs.named_again.Given as goal
 
 abbrev pub invariant-loop-j : goal.invariant-loop-j

@@ -1,10 +1,6 @@
-use borrow.Author.Rules.{rules}
-use Prim.Native.Nat.{◌-◌}
-use mathlib.Core.Path.{◌≡◌, sym, ◌∙◌}
-use borrow.Author.Tests.{eq-eqb, ne_eqb}
-use Rattle.model.specs.Words.{any}
-use Rattle.model.specs.Load.{named_among}
-use Rattle.model.proofs.Searches.{any-more, any-stop, any-end}
+use mathlib.Core.Path.{◌∙◌}
+use borrow.Author.Tests.{ne_eqb}
+use Rattle.model.proofs.Searches.{any-more}
 use Rattle.channel_ends.proofs.Searched.{is_end, among-whole}
 use Rattle.channel_ends.proofs.named_among.Goals as goal
 

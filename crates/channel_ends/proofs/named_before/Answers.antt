@@ -1,6 +1,5 @@
 -- `channel_ends::named_before` meets its contract: the search in the channel itself says whether the one in the earlier channels decides.
 -- Assumes nothing.
-use borrow.Author.Rules.{rules}
 use mathlib.Core.Path.{sym, ◌∙◌}
 use Rattle.model.specs.Load.{named_before}
 use Rattle.channel_ends.proofs.named_before.Goals as goal

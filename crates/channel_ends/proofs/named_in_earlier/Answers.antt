@@ -1,11 +1,7 @@
-use borrow.Author.Rules.{rules}
-use Prim.Native.Nat.{ℕ, ◌+◌, ◌-◌, ◌*◌}
-use mathlib.Core.Path.{◌≡◌, ap, sym, ◌∙◌}
-use native.Mathlib.Omega.{arith}
-use Rattle.model.specs.Words.{any}
+use Prim.Native.Nat.{ℕ}
+use mathlib.Core.Path.{ap, sym, ◌∙◌}
 use Rattle.model.specs.Load.{named_among}
-use Rattle.model.proofs.Searches.{any-more, any-stop, any-end}
-use Rattle.channel_ends.specs.Pieces.{named_in_earlier}
+use Rattle.model.proofs.Searches.{any-more}
 use Rattle.channel_ends.proofs.Searched.{names}
 use Rattle.channel_ends.proofs.named_in_earlier.Goals as goal
 

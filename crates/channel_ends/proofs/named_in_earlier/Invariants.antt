@@ -1,12 +1,8 @@
 -- `channel_ends::named_in_earlier` meets its contract. The loop's invariant: the whole search is what is left of it from q on.
 -- Assumes nothing.
-use borrow.Author.Rules.{rules}
-use Prim.Native.Nat.{ℕ, ◌+◌, ◌-◌, ◌*◌}
-use mathlib.Core.Path.{◌≡◌, ap, sym, ◌∙◌}
-use native.Mathlib.Omega.{arith}
+use Prim.Native.Nat.{◌-◌}
+use mathlib.Core.Path.{◌≡◌}
 use Rattle.model.specs.Words.{any}
-use Rattle.model.specs.Load.{named_among}
-use Rattle.model.proofs.Searches.{any-more, any-stop, any-end}
 use Rattle.channel_ends.specs.Pieces.{named_in_earlier}
 use Rattle.channel_ends.proofs.Searched.{names}
 use Rattle.channel_ends.proofs.named_in_earlier.Given as goal

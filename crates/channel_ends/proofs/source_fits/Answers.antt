@@ -1,6 +1,5 @@
 -- `channel_ends::source_fits` meets its contract: `source-end` says what is left of the test of an end at end 0.
 -- Assumes nothing.
-use borrow.Author.Rules.{rules}
 use Prim.Native.Nat.{ℕ}
 use mathlib.Core.Path.{ap, ◌∙◌}
 use native.Mathlib.Omega.{arith}

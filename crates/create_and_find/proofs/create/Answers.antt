@@ -18,7 +18,6 @@ use native.Mathlib.Numerals.{add-one}
 use Rattle.model.specs.Tables.{row_at}
 use Rattle.model.specs.State.{port, mode_of}
 use Rattle.model.specs.Services.{made}
-use borrow.Author.Rules.{rules}
 use Rattle.create_and_find.proofs.create.Goals as goal
 
 pub returns-then-lay-k : goal.returns-then-lay-k

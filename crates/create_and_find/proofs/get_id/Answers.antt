@@ -9,7 +9,6 @@ use Rattle.create_and_find.proofs.Found.{id-none, id-unmade, id-made}
 use native.Mathlib.Numerals.{add-one}
 use Rattle.model.specs.Answers.{told_id}
 use Rattle.events.specs.Shown.{told_as}
-use borrow.Author.Rules.{rules}
 use Rattle.create_and_find.proofs.get_id.Goals as goal
 
 pub returns-then-lay-k : goal.returns-then-lay-k

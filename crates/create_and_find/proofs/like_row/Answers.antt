@@ -3,7 +3,6 @@ use mathlib.Core.Path.{sym}
 use Rattle.tables.specs.Shown as Shown
 use Rattle.events.specs.Shown.{call_of}
 use Rattle.create_and_find.proofs.LikeRow
-use borrow.Author.Rules.{rules}
 use Rattle.create_and_find.proofs.like_row.Goals as goal
 
 pub returns-then-f-row : goal.returns-then-f-row

@@ -4,7 +4,6 @@ use Rattle.events.specs.Shown.{call_of}
 use Rattle.service_contracts.proofs.Refused.{kept}
 use Rattle.create_and_find.proofs.Made.{made_again, made-unlike, made-normal, made-done}
 use Rattle.ports.proofs.Marks.{put-created}
-use borrow.Author.Rules.{rules}
 use Rattle.create_and_find.proofs.make.Goals as goal
 
 pub returns-then-number-eq1 : goal.returns-then-number-eq1

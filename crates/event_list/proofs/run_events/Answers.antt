@@ -1,10 +1,6 @@
-use Prim.Native.Nat.{◌-◌, ◌/◌, ◌^◌, ◌≤◌, ◌<◌}
-use mathlib.Core.Path.{◌≡◌, refl, ◌∙◌, subst}
+use mathlib.Core.Path.{◌∙◌}
 use native.Mathlib.Omega.{arith}
-use lib.ListN.{length}
-use borrow.Author.Rules.{rules}
-use Rattle.event_list.specs.Stepped.{RunsTo}
-use Rattle.event_list.proofs.OneMore.{none_yet, one_more}
+use Rattle.event_list.proofs.OneMore.{one_more}
 use Rattle.event_list.proofs.run_events.Goals as goal
 
 pub loop-i-preserved : goal.loop-i-preserved

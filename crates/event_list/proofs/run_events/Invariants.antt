@@ -1,11 +1,8 @@
 -- `event_list::run_events` meets its contract: after i turns the first i events are run. Assumes nothing.
-use Prim.Native.Nat.{◌-◌, ◌/◌, ◌^◌, ◌≤◌, ◌<◌}
-use mathlib.Core.Path.{◌≡◌, refl, ◌∙◌, subst}
-use native.Mathlib.Omega.{arith}
+use Prim.Native.Nat.{◌-◌, ◌/◌, ◌≤◌}
+use mathlib.Core.Path.{◌≡◌}
 use lib.ListN.{length}
-use borrow.Author.Rules.{rules}
 use Rattle.event_list.specs.Stepped.{RunsTo}
-use Rattle.event_list.proofs.OneMore.{none_yet, one_more}
 use Rattle.event_list.proofs.run_events.Given as goal
 
 abbrev pub invariant-loop-i : goal.invariant-loop-i

@@ -4,7 +4,6 @@ use mathlib.Core.Path.{◌≡◌, ◌∙◌, ap, ap₂, subst}
 use mathlib.Core.List.{◌++◌}
 use native.Mathlib.Omega.{arith}
 use lib.ListN.{take, drop}
-use borrow.Author.Rules.{rules}
 use borrow.Rule.Slice.PartMut.{Post-is}
 use Rattle.model.specs.Step.{answer, doer, reply}
 use Rattle.events.specs.Shown.{answer_bytes}

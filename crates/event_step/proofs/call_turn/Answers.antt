@@ -1,7 +1,6 @@
 -- `event_step::call_turn` meets its contract: nobody in a mover window, else the caller. Assumes nothing.
 use mathlib.Core.Path.{sym, ◌∙◌, subst}
 use native.Mathlib.Omega.{arith}
-use borrow.Author.Rules.{rules}
 use Rattle.model.specs.Services.{service}
 use Rattle.model.proofs.Accepted.{accepted}
 use Rattle.events.specs.Shown.{call_of}

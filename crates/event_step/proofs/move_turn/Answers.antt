@@ -1,7 +1,6 @@
 -- `event_step::move_turn` meets its contract: nobody in a partition's window or where there is no such channel, else the channel. Assumes nothing.
 use mathlib.Core.Path.{sym, ◌∙◌}
 use native.Mathlib.Omega.{arith}
-use borrow.Author.Rules.{rules}
 use Rattle.model.proofs.Accepted.{accepted}
 use Rattle.service_contracts.proofs.Acts.{refused-does}
 use Rattle.event_step.specs.Turned.{clock_of}

@@ -3,7 +3,6 @@ use Prim.Native.Nat.{suc, ◌+◌, ◌≤◌, ◌<◌}
 use mathlib.Core.Path.{sym, ◌∙◌, ap}
 use native.Mathlib.Omega.{arith}
 use native.Mathlib.Numerals.{add-one}
-use borrow.Author.Rules.{rules}
 use Rattle.model.specs.Tables.{windows}
 use Rattle.model.specs.State.{wrap}
 use Rattle.model.proofs.Accepted.{accepted}

@@ -1,6 +1,5 @@
 -- `event_step::turn` meets its contract, by what the event asks. Assumes nothing.
 use mathlib.Core.Path.{sym, ◌∙◌, ap}
-use borrow.Author.Rules.{rules}
 use Rattle.events.specs.Shown.{asked_of}
 use Rattle.service_contracts.proofs.Acts.{refused-does}
 use Rattle.event_step.specs.Turned.{clock_of}

@@ -3,7 +3,6 @@ use mathlib.Core.Path.{refl, sym, ◌∙◌}
 use lib.ListN.{length}
 use borrow.Author.Tests.{ne_eqb}
 use Rattle.host.specs.Exports.{buffer_or}
-use borrow.Author.Rules.{rules}
 use Rattle.host.proofs.hand_back.Goals as goal
 
 pub returns-then-ran-ne0 : goal.returns-then-ran-ne0

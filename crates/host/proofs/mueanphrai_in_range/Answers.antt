@@ -4,7 +4,6 @@ use lib.ListN.{length}
 use borrow.Author.Tests.{eq-eqb, ne_eqb}
 use Rattle.states.specs.Shown.{is_sound}
 use Rattle.host.proofs.Calls.{unsound, sound-as}
-use borrow.Author.Rules.{rules}
 use Rattle.host.proofs.mueanphrai_in_range.Goals as goal
 
 pub returns-then-state-ne-STATE_SIZE : goal.returns-then-state-ne-STATE_SIZE

@@ -5,7 +5,6 @@ use borrow.Author.Tests.{eq-eqb, ne_eqb}
 use Rattle.loader.specs.Shown.{verdict_of}
 use Rattle.state_buffer.specs.Layout.{bytes_of}
 use Rattle.host.proofs.Calls.{load-refused, load-unsized, load-done, at_load_lem}
-use borrow.Author.Rules.{rules}
 use Rattle.host.proofs.mueanphrai_load.Goals as goal
 
 pub returns-then-state-ne-STATE_SIZE : goal.returns-then-state-ne-STATE_SIZE

@@ -3,7 +3,6 @@ use lib.Dec.{eqb}
 use lib.ListN.{length}
 use borrow.Author.Tests.{eq-eqb, ne_eqb}
 use Rattle.host.proofs.Calls.{unsized, sized}
-use borrow.Author.Rules.{rules}
 use Rattle.host.proofs.mueanphrai_step.Goals as goal
 
 pub returns-then-state-ne-STATE_SIZE : goal.returns-then-state-ne-STATE_SIZE

@@ -1,7 +1,6 @@
 -- `host::refused_size` meets its contract: the tests of a list in their order, the last of them failed. Assumes nothing.
 use mathlib.Core.Path.{refl, sym, ◌∙◌, ap}
 use mathlib.Core.Bool.{false}
-use borrow.Author.Tests.{not-true, not-false}
 use Rattle.model.specs.Run.{list_fault}
 use Rattle.kernel.proofs.Laws as Kernel
 use Rattle.host.proofs.refused_size.Goals as goal

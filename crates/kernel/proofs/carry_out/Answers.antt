@@ -1,9 +1,7 @@
 -- `kernel::carry_out` meets its contract: the refusals in their order, then the list. Assumes nothing.
 use mathlib.Core.Path.{sym, ◌∙◌}
-use borrow.Author.Tests.{not-true, not-false}
 use Rattle.tested_run.proofs.Laws as Sound
 use Rattle.kernel.proofs.Laws
-use borrow.Author.Rules.{rules}
 use Rattle.kernel.proofs.carry_out.Goals as goal
 
 pub returns-then-answers-events : goal.returns-then-answers-events

@@ -1,6 +1,5 @@
 -- `kernel::load` meets its contract: by the case of the verdict. Assumes nothing.
 use mathlib.Core.Path.{sym, ◌∙◌, ap}
-use borrow.Author.Rules.{rules}
 use Rattle.model.specs.Load.{is_accepted, accepts}
 use Rattle.loader.specs.Shown.{verdict_of}
 use Rattle.kernel.proofs.load.Goals as goal

@@ -1,8 +1,7 @@
 -- `kernel::run` meets its contract: 27, or the list carried out. Assumes nothing.
 use Prim.Native.Nat.{◌%◌}
 use lib.ListN.{length}
-use borrow.Author.Rules.{rules}
-use borrow.Author.Tests.{eq-eqb, ne_eqb}
+use borrow.Author.Tests.{ne_eqb}
 use Rattle.kernel.proofs.Laws
 use Rattle.kernel.proofs.run.Goals as goal
 

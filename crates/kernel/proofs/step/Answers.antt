@@ -1,7 +1,6 @@
 -- `kernel::step` meets its contract: 27, or the event carried out. Assumes nothing.
 use lib.ListN.{length}
-use borrow.Author.Rules.{rules}
-use borrow.Author.Tests.{eq-eqb, ne_eqb}
+use borrow.Author.Tests.{ne_eqb}
 use Rattle.kernel.proofs.Laws
 use Rattle.kernel.proofs.step.Goals as goal
 

@@ -1,6 +1,5 @@
 -- `loader::count_fault` meets its contract: the record's kind says which count is meant.
 -- Assumes nothing.
-use borrow.Author.Rules.{rules}
 use borrow.Author.Tests.{ne_eqb}
 use Rattle.model.specs.Load.{count_fault}
 use Rattle.loader.proofs.count_fault.Goals as goal

@@ -1,6 +1,5 @@
 -- `loader::fault` meets its contract: each test is a part of the definition, and `lowest` its order.
 -- Assumes nothing.
-use borrow.Author.Rules.{rules}
 use Rattle.model.specs.Load.{fault}
 use Rattle.loader.proofs.fault.Goals as goal
 

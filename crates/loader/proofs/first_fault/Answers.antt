@@ -1,12 +1,7 @@
-use borrow.Author.Rules.{rules}
-use Prim.Native.Nat.{◌-◌, ◌≤◌}
-use mathlib.Core.Path.{◌≡◌, sym, ◌∙◌}
+use mathlib.Core.Path.{◌∙◌}
 use native.Mathlib.Omega.{arith}
-use Rattle.model.specs.Words.{first}
-use Rattle.model.specs.Tables.{records}
-use Rattle.model.specs.Load.{first_fault}
-use Rattle.model.proofs.Searches.{first_more, first-stop, first-end}
-use Rattle.loader.proofs.Faults.{is_faulty, is-faultless, is-faulty, faults-whole}
+use Rattle.model.proofs.Searches.{first_more}
+use Rattle.loader.proofs.Faults.{is_faulty, is-faultless, faults-whole}
 use Rattle.loader.proofs.first_fault.Goals as goal
 
 pub loop-r-init : goal.loop-r-init

@@ -1,14 +1,11 @@
 -- `loader::first_fault` meets its contract. The loop's invariant: the whole search is what is left of it from r on.
 -- Assumes nothing.
-use borrow.Author.Rules.{rules}
 use Prim.Native.Nat.{◌-◌, ◌≤◌}
-use mathlib.Core.Path.{◌≡◌, sym, ◌∙◌}
-use native.Mathlib.Omega.{arith}
+use mathlib.Core.Path.{◌≡◌}
 use Rattle.model.specs.Words.{first}
 use Rattle.model.specs.Tables.{records}
 use Rattle.model.specs.Load.{first_fault}
-use Rattle.model.proofs.Searches.{first_more, first-stop, first-end}
-use Rattle.loader.proofs.Faults.{is_faulty, is-faultless, is-faulty, faults-whole}
+use Rattle.loader.proofs.Faults.{is_faulty}
 use Rattle.loader.proofs.first_fault.Given as goal
 
 abbrev pub invariant-loop-r : goal.invariant-loop-r

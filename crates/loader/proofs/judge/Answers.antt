@@ -1,8 +1,6 @@
 -- `loader::judge` meets its contract: each test is a part of the definition, in its order.
 -- Assumes nothing.
-use borrow.Author.Rules.{rules}
 use mathlib.Core.Path.{sym}
-use native.Mathlib.Omega.{arith}
 use Rattle.loader.proofs.Faults.{unwhole, with-fault, without-window, faultless}
 use Rattle.loader.proofs.judge.Goals as goal
 

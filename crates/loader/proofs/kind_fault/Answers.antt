@@ -1,6 +1,5 @@
 -- `loader::kind_fault` meets its contract: the test on the kind says whether the one on its order decides.
 -- Assumes nothing.
-use borrow.Author.Rules.{rules}
 use mathlib.Core.Path.{ap, ◌∙◌}
 use Rattle.model.specs.Words.{between}
 use Rattle.model.specs.Load.{kind_fault}

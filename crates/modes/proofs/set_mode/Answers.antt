@@ -3,12 +3,10 @@ use mathlib.Core.Path.{◌≡◌, refl, ap}
 use borrow.Author.Tests.{ne_eqb}
 use lib.Dec.{eqb}
 use lib.ListN.{get_or, set}
-use mathlib.Core.Logic.{⊎_elim}
 use mathlib.Core.Bool.{false, ◌&&◌, and-false}
 use Rattle.service_contracts.specs.Did.{shown}
 use Rattle.service_contracts.proofs.Acts.{refused-does}
 use Rattle.modes.proofs.SetMode
-use borrow.Author.Rules.{rules}
 use Rattle.modes.proofs.set_mode.Goals as goal
 use Rattle.modes.proofs.set_mode.Goals.{then-m-eq-WARM_START+else-mode-eq-COLD_START, else-m-eq-WARM_START}
 
@@ -57,7 +55,7 @@ returns c =
     let m = c.args.m in
     let other : (eqb m 2 && eqb (get_or ms p 0) 1) ≡ false =
     elim c.if-m-eq-WARM_START.branch [
-      then-m-eq-WARM_START+else-mode-eq-COLD_START w ↦ rw (ne_eqb (get_or ms p 0) 1 w.if-mode-eq-COLD_START.false) (and-false (eqb m 2))
+      | then-m-eq-WARM_START+else-mode-eq-COLD_START w ↦ rw (ne_eqb (get_or ms p 0) 1 w.if-mode-eq-COLD_START.false) (and-false (eqb m 2))
       | else-m-eq-WARM_START w ↦ rw (ne_eqb m 2 w.if-m-eq-WARM_START.false)
     ]
     in

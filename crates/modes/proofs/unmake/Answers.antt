@@ -1,6 +1,5 @@
 -- `modes::unmake` meets its contract: four numbers set. Assumes nothing.
 use Rattle.modes.proofs.Unmade
-use borrow.Author.Rules.{rules}
 use Rattle.modes.proofs.unmake.Goals as goal
 
 pub returns : goal.returns

@@ -1,11 +1,9 @@
-use Prim.Native.Nat.{◌+◌, ◌-◌, ◌≤◌, ◌<◌}
-use mathlib.Core.Path.{◌≡◌, refl, sym, ◌∙◌, ap, subst}
-use mathlib.Core.Logic.{⊎_elim}
+use Prim.Native.Nat.{◌+◌, ◌≤◌, ◌<◌}
+use mathlib.Core.Path.{◌≡◌, sym, ◌∙◌, ap, subst}
 use native.Mathlib.Omega.{arith}
 use lib.ListN.{length}
-use borrow.Author.Rules.{rules}
 use Rattle.model.specs.Tables.{ports, row_at}
-use Rattle.modes.proofs.Sweep.{Swept, swept_none, swept-taken, swept_kept, swept_all}
+use Rattle.modes.proofs.Sweep.{Swept, swept-taken, swept_kept, swept_all}
 use Rattle.modes.proofs.unmake_all.Goals as goal
 use Rattle.modes.proofs.unmake_all.Goals.{then-t-lay, else-t-lay}
 
@@ -20,7 +18,7 @@ loop-k-preserved c =
     let more : l.k + 1 ≤ ports t = omega arith in
     let v = c.requires.rows.laid.windowed in
     elim c.if-t-lay.branch [
-      then-t-lay w ↦ (
+      | then-t-lay w ↦ (
         more,
         ap length w.numbers-is ∙ w.unmake.auto.numbers ∙ l.invariant.1,
         subst (Swept t p (l.k + 1) n) (sym w.numbers-is)

@@ -1,12 +1,9 @@
 -- `modes::unmake_all` meets its contract: after k turns the first k rows are swept. Assumes nothing.
-use Prim.Native.Nat.{◌+◌, ◌-◌, ◌≤◌, ◌<◌}
-use mathlib.Core.Path.{◌≡◌, refl, sym, ◌∙◌, ap, subst}
-use mathlib.Core.Logic.{⊎_elim}
-use native.Mathlib.Omega.{arith}
+use Prim.Native.Nat.{◌-◌, ◌≤◌}
+use mathlib.Core.Path.{◌≡◌}
 use lib.ListN.{length}
-use borrow.Author.Rules.{rules}
-use Rattle.model.specs.Tables.{ports, row_at}
-use Rattle.modes.proofs.Sweep.{Swept, swept_none, swept-taken, swept_kept, swept_all}
+use Rattle.model.specs.Tables.{ports}
+use Rattle.modes.proofs.Sweep.{Swept}
 use Rattle.modes.proofs.unmake_all.Given as goal
 
 abbrev pub invariant-loop-k : goal.invariant-loop-k

@@ -9,7 +9,6 @@ use Rattle.ports.specs.Held.{port_at}
 use Rattle.ports.proofs.Ports.{put_is, put-kept}
 use Rattle.service_contracts.proofs.Contents.{created-is}
 use Rattle.moves.proofs.Laws.{arrived-uncreated, arrived-queuing, arrived-sampling, put-stamped}
-use borrow.Author.Rules.{rules}
 use Rattle.moves.proofs.arrive.Goals as goal
 
 pub returns-then-number-eq0 : goal.returns-then-number-eq0

@@ -1,16 +1,11 @@
-use Prim.Native.Nat.{ℕ, ◌-◌, ◌<◌}
-use mathlib.Core.Path.{◌≡◌, refl, sym, ◌∙◌, ap}
-use mathlib.Core.List.{List}
-use native.Mathlib.Nat.{sub-zero}
+use Prim.Native.Nat.{◌-◌, ◌<◌}
+use mathlib.Core.Path.{◌≡◌, sym, ◌∙◌, ap}
 use native.Mathlib.Omega.{arith}
-use borrow.Author.Rules.{rules}
-use lib.ListN.{length}
 use Rattle.model.specs.Tables.{destinations}
-use Rattle.model.specs.State.{Clock}
 use Rattle.model.specs.Services.{delivered}
 use Rattle.stores.specs.Ring.{written, lettered}
-use Rattle.service_contracts.specs.Did.{Held, shown}
-use Rattle.moves.proofs.Channels.{few-records, first-channel, its-record, few-destinations, held_on, turn}
+use Rattle.service_contracts.specs.Did.{shown}
+use Rattle.moves.proofs.Channels.{few-records, first-channel, its-record, held_on, turn}
 use Rattle.moves.proofs.deliver.Goals as goal
 
 pub overflow_add-lay : goal.overflow_add-lay

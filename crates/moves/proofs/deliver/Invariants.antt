@@ -1,17 +1,13 @@
 -- `moves::deliver` meets its contract. The loop's invariant: what is left to deliver, from the ports as they are, is what was to deliver at entry. Assumes nothing.
-use Prim.Native.Nat.{ℕ, ◌-◌, ◌<◌}
-use mathlib.Core.Path.{◌≡◌, refl, sym, ◌∙◌, ap}
+use Prim.Native.Nat.{ℕ, ◌-◌}
+use mathlib.Core.Path.{◌≡◌}
 use mathlib.Core.List.{List}
-use native.Mathlib.Nat.{sub-zero}
-use native.Mathlib.Omega.{arith}
-use borrow.Author.Rules.{rules}
 use lib.ListN.{length}
 use Rattle.model.specs.Tables.{destinations}
 use Rattle.model.specs.State.{Clock}
 use Rattle.model.specs.Services.{delivered}
 use Rattle.stores.specs.Ring.{written, lettered}
 use Rattle.service_contracts.specs.Did.{Held, shown}
-use Rattle.moves.proofs.Channels.{few-records, first-channel, its-record, few-destinations, held_on, turn}
 use Rattle.moves.proofs.deliver.Given as goal
 
 abbrev pub invariant-loop-j : goal.invariant-loop-j

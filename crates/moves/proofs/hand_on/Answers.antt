@@ -2,7 +2,6 @@
 use native.Mathlib.Omega.{arith}
 use Rattle.stores.specs.Ring.{written, lettered}
 use Rattle.moves.proofs.Channels.{few-records, first-channel, its-record, few-destinations, its-row, destination-fits, handed}
-use borrow.Author.Rules.{rules}
 use Rattle.moves.proofs.hand_on.Goals as goal
 
 pub overflow_add-lay : goal.overflow_add-lay

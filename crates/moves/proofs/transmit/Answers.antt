@@ -1,7 +1,6 @@
 -- `moves::transmit` meets its contract: an empty source is refused, and else the oldest message is taken and delivered. Assumes nothing.
 use native.Mathlib.Omega.{arith}
 use Rattle.moves.proofs.Channels.{few-records, first-channel, its-record, few-channels, source-lent, source-sized, source-some, source-held, source-carried, moved, unmoved}
-use borrow.Author.Rules.{rules}
 use Rattle.moves.proofs.transmit.Goals as goal
 
 pub overflow_cast-doer : goal.overflow_cast-doer

@@ -1,10 +1,8 @@
 -- `own_ports::own` meets its contract: the tests in their order. Assumes nothing.
 use Prim.Native.Nat.{◌-◌, ◌≤◌, ◌<◌}
-use mathlib.Core.Path.{◌≡◌, sym, ◌∙◌, ap, ap₂}
+use mathlib.Core.Path.{sym, ◌∙◌, ap, ap₂}
 use native.Mathlib.Omega.{arith}
 use lib.Dec.{eqb}
-use borrow.Author.Rules.{rules}
-use borrow.Author.Tests.{not-true, not-false}
 use Rattle.model.specs.Tables.{ports}
 use Rattle.events.specs.Shown.{call_of}
 use Rattle.service_contracts.proofs.Holding.{row-at}

@@ -8,7 +8,6 @@ use Rattle.tables.specs.Shown.{decoded}
 use Rattle.events.specs.Shown.{call_of}
 use Rattle.service_contracts.proofs.Holding.{rows_of, fits-of}
 use Rattle.own_ports.proofs.OwnPorts.{use-refused, own-some, own-there, use-served}
-use borrow.Author.Rules.{rules}
 use Rattle.own_ports.proofs.use_own.Goals as goal
 
 pub returns-then-not-own : goal.returns-then-not-own

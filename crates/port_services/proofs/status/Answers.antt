@@ -5,7 +5,6 @@ use Rattle.ports.specs.Held.{port_at}
 use Rattle.ports.proofs.Ports.{count-is}
 use Rattle.service_contracts.proofs.Contents.{validity-is}
 use Rattle.port_services.proofs.Laws.{status-sampling, status-queuing}
-use borrow.Author.Rules.{rules}
 use Rattle.port_services.proofs.status.Goals as goal
 
 pub overflow_cast-a : goal.overflow_cast-a

@@ -1,11 +1,8 @@
 -- `ports::lay_bytes` meets its contract: after i turns the first i are copied. Assumes nothing.
 use Prim.Native.Nat.{◌-◌, ◌≤◌}
-use mathlib.Core.Path.{◌≡◌, refl, ◌∙◌}
-use native.Mathlib.Omega.{arith}
-use lib.ListN.{length, length-set}
-use lib.Seq.{paste, paste-zero}
-use borrow.Author.Rules.{rules}
-use Rattle.stores.proofs.Lists.{paste-pasted, paste-turn}
+use mathlib.Core.Path.{◌≡◌}
+use lib.ListN.{length}
+use lib.Seq.{paste}
 use Rattle.ports.proofs.lay_bytes.Given as goal
 
 abbrev pub invariant-loop-i : goal.invariant-loop-i

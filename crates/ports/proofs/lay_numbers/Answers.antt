@@ -1,10 +1,7 @@
-use Prim.Native.Nat.{◌-◌, ◌≤◌}
-use mathlib.Core.Path.{◌≡◌, refl, ◌∙◌}
+use mathlib.Core.Path.{refl}
 use native.Mathlib.Omega.{arith}
-use lib.ListN.{length, length-set}
-use lib.Seq.{paste, paste-zero}
-use borrow.Author.Rules.{rules}
-use Rattle.stores.proofs.Lists.{paste-pasted, paste-turn}
+use lib.ListN.{length-set}
+use Rattle.stores.proofs.Lists.{paste-turn}
 use Rattle.ports.proofs.lay_numbers.Goals as goal
 
 pub loop-i-preserved : goal.loop-i-preserved

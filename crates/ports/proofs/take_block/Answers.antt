@@ -1,11 +1,7 @@
-use Prim.Native.Nat.{◌*◌, ◌-◌, ◌≤◌, ◌<◌}
-use mathlib.Core.Path.{◌≡◌, refl, sym, ◌∙◌}
+use mathlib.Core.Path.{◌≡◌, sym, ◌∙◌}
 use native.Mathlib.Omega.{arith}
-use lib.ListN.{length, take, drop, length-drop, length-set}
-use lib.Seq.{take_all, get_or-drop}
+use lib.Seq.{take_all}
 use Rattle.ports.specs.Held.{block_of}
-use Rattle.ports.proofs.Rows.{fill-next}
-use borrow.Author.Rules.{rules}
 use Rattle.ports.proofs.take_block.Goals as goal
 
 pub returns : goal.returns

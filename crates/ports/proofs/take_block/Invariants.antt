@@ -1,12 +1,7 @@
 -- `ports::take_block` meets its contract: after i turns the first i bytes are those of the port's block. Assumes nothing.
-use Prim.Native.Nat.{◌*◌, ◌-◌, ◌≤◌, ◌<◌}
-use mathlib.Core.Path.{◌≡◌, refl, sym, ◌∙◌}
-use native.Mathlib.Omega.{arith}
-use lib.ListN.{length, take, drop, length-drop, length-set}
-use lib.Seq.{take_all, get_or-drop}
-use Rattle.ports.specs.Held.{block_of}
-use Rattle.ports.proofs.Rows.{fill-next}
-use borrow.Author.Rules.{rules}
+use Prim.Native.Nat.{◌*◌, ◌-◌, ◌≤◌}
+use mathlib.Core.Path.{◌≡◌}
+use lib.ListN.{length, take, drop}
 use Rattle.ports.proofs.take_block.Given as goal
 
 abbrev pub invariant-loop-i : goal.invariant-loop-i

@@ -1,9 +1,8 @@
-use Prim.Native.Nat.{◌-◌, ◌≤◌, ◌<◌}
-use mathlib.Core.Path.{◌≡◌, refl, sym, ◌∙◌}
+use Prim.Native.Nat.{◌<◌}
+use mathlib.Core.Path.{◌≡◌, sym, ◌∙◌}
 use native.Mathlib.Omega.{arith}
-use lib.ListN.{length, take, drop, length-set, length-drop}
+use lib.ListN.{length, drop, length-set, length-drop}
 use lib.Seq.{take_all, get_or-drop}
-use borrow.Author.Rules.{rules}
 use Rattle.ports.specs.Held.{row_of}
 use Rattle.ports.proofs.Rows.{fill-next}
 use Rattle.ports.proofs.take_lengths.Goals as goal

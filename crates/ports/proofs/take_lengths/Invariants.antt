@@ -1,12 +1,8 @@
 -- `ports::take_lengths` meets its contract: after i turns the first i lengths are the row's. Assumes nothing.
-use Prim.Native.Nat.{◌-◌, ◌≤◌, ◌<◌}
-use mathlib.Core.Path.{◌≡◌, refl, sym, ◌∙◌}
-use native.Mathlib.Omega.{arith}
-use lib.ListN.{length, take, drop, length-set, length-drop}
-use lib.Seq.{take_all, get_or-drop}
-use borrow.Author.Rules.{rules}
+use Prim.Native.Nat.{◌-◌, ◌≤◌}
+use mathlib.Core.Path.{◌≡◌}
+use lib.ListN.{length, take, drop}
 use Rattle.ports.specs.Held.{row_of}
-use Rattle.ports.proofs.Rows.{fill-next}
 use Rattle.ports.proofs.take_lengths.Given as goal
 
 abbrev pub invariant-loop-i : goal.invariant-loop-i

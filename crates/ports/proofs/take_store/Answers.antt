@@ -1,6 +1,5 @@
 -- `ports::take_store` meets its contract: its parts are those of the port's row and block. Assumes nothing.
 use Rattle.ports.specs.Held.{store_at}
-use borrow.Author.Rules.{rules}
 use Rattle.ports.proofs.take_store.Goals as goal
 
 pub returns : goal.returns

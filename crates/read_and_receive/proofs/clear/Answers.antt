@@ -1,12 +1,10 @@
 -- `read_and_receive::clear` meets its contract: the direction, then no message counts. Assumes nothing.
 use mathlib.Core.Path.{sym, ◌∙◌}
-use borrow.Author.Tests.{not-true, not-false}
 use Rattle.tables.specs.Shown.{row_of}
 use Rattle.events.specs.Shown.{call_of}
 use Rattle.ports.proofs.Marks.{put-none}
 use Rattle.service_contracts.proofs.Refused.{kept}
 use Rattle.read_and_receive.proofs.Cases.{clear-wrong, clear-done}
-use borrow.Author.Rules.{rules}
 use Rattle.read_and_receive.proofs.clear.Goals as goal
 
 pub returns-then-not-directed : goal.returns-then-not-directed

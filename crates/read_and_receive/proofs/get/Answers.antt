@@ -1,12 +1,10 @@
 -- `read_and_receive::get` meets its contract: the direction, then read or receive by code. Assumes nothing.
 use mathlib.Core.Path.{sym, ◌∙◌}
-use borrow.Author.Tests.{not-true, not-false}
 use Rattle.tables.specs.Shown.{row_of}
 use Rattle.events.specs.Shown.{call_of}
 use Rattle.service_contracts.proofs.Contents.{sized_of}
 use Rattle.service_contracts.proofs.Refused.{kept}
 use Rattle.read_and_receive.proofs.Cases.{get-wrong, get-read, get-receive}
-use borrow.Author.Rules.{rules}
 use Rattle.read_and_receive.proofs.get.Goals as goal
 
 pub returns-then-not-directed : goal.returns-then-not-directed

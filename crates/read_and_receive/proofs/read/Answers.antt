@@ -19,7 +19,6 @@ use Rattle.service_contracts.proofs.Contents.{sized_of, none-held, some-held, ol
 use Rattle.read_and_receive.proofs.Laws.{some-count}
 use Rattle.service_contracts.proofs.Refused.{kept}
 use Rattle.read_and_receive.proofs.Cases.{read_some}
-use borrow.Author.Rules.{rules}
 use Rattle.read_and_receive.proofs.read.Goals as goal
 
 pub returns-then-number-eq0 : goal.returns-then-number-eq0

@@ -1,7 +1,6 @@
 -- `read_and_receive::receive` meets its contract: 2 where the port is empty, else its oldest message. Assumes nothing.
 use Rattle.service_contracts.proofs.Contents.{none-held, some-held, oldest-held}
 use Rattle.service_contracts.proofs.Refused.{kept}
-use borrow.Author.Rules.{rules}
 use Rattle.read_and_receive.proofs.receive.Goals as goal
 
 pub returns-then-number-eq0 : goal.returns-then-number-eq0

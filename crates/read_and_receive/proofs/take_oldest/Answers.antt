@@ -12,7 +12,6 @@ use Rattle.ports.proofs.Rows.{row_is}
 use Rattle.ports.proofs.Ports.{put_is, store-queue}
 use Rattle.ports.proofs.Marks.{put-dropped}
 use Rattle.read_and_receive.proofs.Laws.{some-count, rest-is}
-use borrow.Author.Rules.{rules}
 use Rattle.read_and_receive.proofs.take_oldest.Goals as goal
 
 pub drop_oldest-rest-requires : goal.drop_oldest-rest-requires

@@ -1,15 +1,11 @@
 -- `settled_form::put_port` meets its contract: the two parts of the row and the block are those of the settled store. Assumes nothing.
 use Prim.Native.Nat.{◌+◌, ◌*◌}
-use mathlib.Core.Path.{◌≡◌, sym, ◌∙◌, ap, subst}
+use mathlib.Core.Path.{◌≡◌, ◌∙◌, ap}
 use mathlib.Core.List.{[], ◌∷◌}
 use native.Mathlib.Omega.{arith}
-use lib.ListN.{length}
-use Rattle.stores.specs.declared.Store.{Store}
-use Rattle.stores.specs.Ring.{pasted, lay_out, queue_of, Sized}
-use Rattle.stores.proofs.Laws.{lay_out-bytes}
+use Rattle.stores.specs.Ring.{pasted, lay_out, queue_of}
 use Rattle.ports.specs.Held.{store_at}
 use Rattle.settled_form.proofs.Parts.{pasted-behind, row_laid, block-laid}
-use borrow.Author.Rules.{rules}
 use Rattle.settled_form.proofs.put_port.Goals as goal
 
 pub returns : goal.returns

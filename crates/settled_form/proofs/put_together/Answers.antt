@@ -1,10 +1,5 @@
-use Prim.Native.Nat.{◌-◌, ◌≤◌, ◌<◌}
-use mathlib.Core.Path.{◌≡◌, refl, ◌∙◌, ap}
+use mathlib.Core.Path.{refl, ◌∙◌}
 use native.Mathlib.Omega.{arith}
-use lib.ListN.{length}
-use borrow.Author.Rules.{rules}
-use Rattle.ports.specs.Held.{ports_of}
-use Rattle.settled_form.specs.Settled.{settled_numbers, settled_bytes}
 use Rattle.settled_form.proofs.Parts.{numbers-none, bytes-none, numbers-next, bytes_next}
 use Rattle.settled_form.proofs.put_together.Goals as goal
 

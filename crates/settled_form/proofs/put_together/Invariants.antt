@@ -1,13 +1,10 @@
 -- `settled_form::put_together` meets its contract: after k turns the first k ports are laid, and what was there stands behind them.
 -- Assumes nothing.
-use Prim.Native.Nat.{◌-◌, ◌≤◌, ◌<◌}
-use mathlib.Core.Path.{◌≡◌, refl, ◌∙◌, ap}
-use native.Mathlib.Omega.{arith}
+use Prim.Native.Nat.{◌-◌, ◌≤◌}
+use mathlib.Core.Path.{◌≡◌}
 use lib.ListN.{length}
-use borrow.Author.Rules.{rules}
 use Rattle.ports.specs.Held.{ports_of}
 use Rattle.settled_form.specs.Settled.{settled_numbers, settled_bytes}
-use Rattle.settled_form.proofs.Parts.{numbers-none, bytes-none, numbers-next, bytes_next}
 use Rattle.settled_form.proofs.put_together.Given as goal
 
 abbrev pub invariant-loop-k : goal.invariant-loop-k

@@ -1,8 +1,5 @@
 -- `state_buffer::lay_number` meets its contract: four stores, one after the other. Assumes nothing.
-use native.Mathlib.Omega.{arith}
-use lib.ListN.{length-set}
 use Rattle.state_buffer.proofs.Laws.{four-laid}
-use borrow.Author.Rules.{rules}
 use Rattle.state_buffer.proofs.lay_number.Goals as goal
 
 pub returns : goal.returns

@@ -1,14 +1,13 @@
-use Prim.Native.Nat.{◌+◌, ◌*◌, ◌-◌, ◌≤◌}
-use mathlib.Core.Path.{◌≡◌, refl, sym, ◌∙◌, ap, ap₂}
+use Prim.Native.Nat.{◌+◌, ◌*◌}
+use mathlib.Core.Path.{◌≡◌, sym, ◌∙◌, ap, ap₂}
 use native.Mathlib.Omega.{arith}
 use lib.ListN.{length, get_or, take}
-use lib.Seq.{take-length, length-take-le}
-use borrow.Author.Rules.{rules}
+use lib.Seq.{length-take-le}
 use Rattle.model.specs.Words.{bytes32}
 use Rattle.stores.specs.Ring.{pasted}
 use Rattle.settled_form.proofs.Parts.{pasted-behind}
 use Rattle.state_buffer.specs.Layout.{bytes_of_all}
-use Rattle.state_buffer.proofs.Laws.{all-length, all-next, pasted-none}
+use Rattle.state_buffer.proofs.Laws.{all-length, all-next}
 use Rattle.state_buffer.proofs.lay_numbers.Goals as goal
 
 pub loop-i-preserved : goal.loop-i-preserved

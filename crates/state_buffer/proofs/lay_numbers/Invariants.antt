@@ -1,15 +1,9 @@
 -- `state_buffer::lay_numbers` meets its contract: after i turns the first i are laid. Assumes nothing.
-use Prim.Native.Nat.{◌+◌, ◌*◌, ◌-◌, ◌≤◌}
-use mathlib.Core.Path.{◌≡◌, refl, sym, ◌∙◌, ap, ap₂}
-use native.Mathlib.Omega.{arith}
-use lib.ListN.{length, get_or, take}
-use lib.Seq.{take-length, length-take-le}
-use borrow.Author.Rules.{rules}
-use Rattle.model.specs.Words.{bytes32}
+use Prim.Native.Nat.{◌-◌, ◌≤◌}
+use mathlib.Core.Path.{◌≡◌}
+use lib.ListN.{length, take}
 use Rattle.stores.specs.Ring.{pasted}
-use Rattle.settled_form.proofs.Parts.{pasted-behind}
 use Rattle.state_buffer.specs.Layout.{bytes_of_all}
-use Rattle.state_buffer.proofs.Laws.{all-length, all-next, pasted-none}
 use Rattle.state_buffer.proofs.lay_numbers.Given as goal
 
 abbrev pub invariant-loop-i : goal.invariant-loop-i

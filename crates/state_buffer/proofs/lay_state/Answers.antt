@@ -1,6 +1,5 @@
 -- `state_buffer::lay_state` meets its contract: the five parts, one behind the other. Assumes nothing.
 use mathlib.Core.Path.{◌≡◌, ◌∙◌, ap}
-use native.Mathlib.Omega.{arith}
 use lib.ListN.{length}
 use Rattle.model.specs.Words.{bytes32}
 use Rattle.stores.specs.Ring.{pasted}

@@ -1,12 +1,9 @@
-use Prim.Native.Nat.{◌-◌, ◌≤◌}
-use mathlib.Core.Path.{◌≡◌, refl, sym, ◌∙◌}
+use mathlib.Core.Path.{◌≡◌, sym}
 use native.Mathlib.Omega.{arith}
 use native.Mathlib.Nat.{zero-add}
 use lib.ListN.{length, take, drop, length-set}
-use lib.Seq.{paste, paste-zero}
-use borrow.Author.Rules.{rules}
-use Rattle.stores.proofs.Lists.{paste-pasted, paste-turn}
-use Rattle.state_buffer.proofs.Laws.{part-long, part_at, pasted-whole}
+use Rattle.stores.proofs.Lists.{paste-turn}
+use Rattle.state_buffer.proofs.Laws.{part-long, part_at}
 use Rattle.state_buffer.proofs.read_bytes.Goals as goal
 
 pub loop-i-preserved : goal.loop-i-preserved

@@ -1,10 +1,7 @@
-use Prim.Native.Nat.{◌-◌, ◌≤◌}
-use mathlib.Core.Path.{◌≡◌, refl, sym, ◌∙◌}
+use mathlib.Core.Path.{◌≡◌, sym, ◌∙◌}
 use native.Mathlib.Omega.{arith}
 use native.Mathlib.Nat.{zero-add}
 use lib.ListN.{length, length-set}
-use lib.Seq.{paste, paste-zero}
-use borrow.Author.Rules.{rules}
 use Rattle.stores.proofs.Lists.{paste-pasted, paste-turn}
 use Rattle.state_buffer.specs.Layout.{numbers_from}
 use Rattle.state_buffer.proofs.Laws.{numbers-length, numbers-at, pasted-whole}

@@ -1,14 +1,9 @@
 -- `state_buffer::read_numbers` meets its contract: after i turns the first i are read. Assumes nothing.
 use Prim.Native.Nat.{◌-◌, ◌≤◌}
-use mathlib.Core.Path.{◌≡◌, refl, sym, ◌∙◌}
-use native.Mathlib.Omega.{arith}
-use native.Mathlib.Nat.{zero-add}
-use lib.ListN.{length, length-set}
-use lib.Seq.{paste, paste-zero}
-use borrow.Author.Rules.{rules}
-use Rattle.stores.proofs.Lists.{paste-pasted, paste-turn}
+use mathlib.Core.Path.{◌≡◌}
+use lib.ListN.{length}
+use lib.Seq.{paste}
 use Rattle.state_buffer.specs.Layout.{numbers_from}
-use Rattle.state_buffer.proofs.Laws.{numbers-length, numbers-at, pasted-whole}
 use Rattle.state_buffer.proofs.read_numbers.Given as goal
 
 abbrev pub invariant-loop-i : goal.invariant-loop-i

@@ -1,7 +1,5 @@
 -- `state_buffer::state_of` meets its contract: each part is that of the buffer. Assumes nothing.
-use mathlib.Core.Path.{refl}
-use Rattle.state_buffer.proofs.Laws.{whole-within, state-read}
-use borrow.Author.Rules.{rules}
+use Rattle.state_buffer.proofs.Laws.{state-read}
 use Rattle.state_buffer.proofs.state_of.Goals as goal
 
 pub returns : goal.returns

@@ -3,12 +3,11 @@ use mathlib.Core.Path.{◌≡◌, sym, ◌∙◌, ap}
 use mathlib.Core.Bool.{true, false, ◌&&◌}
 use native.Mathlib.Omega.{arith}
 use lib.Dec.{ltb}
-use borrow.Author.Tests.{lt-ltb, le-ltb, not-true, not-false}
+use borrow.Author.Tests.{lt-ltb, le-ltb}
 use Rattle.model.specs.Tables.{windows}
 use Rattle.model.proofs.Accepted.{accepted}
 use Rattle.state_test.specs.Tested.{modes_fit, each_fits}
 use Rattle.state_test.proofs.Judged.{state-judged}
-use borrow.Author.Rules.{rules}
 use Rattle.state_test.proofs.in_range.Goals as goal
 
 pub returns-then-lay-window : goal.returns-then-lay-window

@@ -1,16 +1,12 @@
-use borrow.Author.Rules.{rules}
-use Prim.Native.Nat.{◌+◌, ◌-◌, ◌%◌, ◌≤◌, ◌<◌}
-use mathlib.Core.Path.{◌≡◌, sym, ◌∙◌, ap}
-use mathlib.Core.Bool.{true, false}
+use Prim.Native.Nat.{◌+◌, ◌%◌, ◌<◌}
+use mathlib.Core.Path.{◌≡◌, ◌∙◌}
+use mathlib.Core.Bool.{true}
 use native.Mathlib.Omega.{arith}
-use lib.Dec.{leb}
 use lib.ListN.{get_or}
-use borrow.Author.Tests.{le-leb, lt-leb}
-use Rattle.model.specs.Words.{all}
-use Rattle.model.proofs.Searches.{all_more, all-stop, all_end}
+use Rattle.model.proofs.Searches.{all_more}
 use Rattle.model.proofs.Tests.{is-between}
 use Rattle.ports.specs.Held.{row_of}
-use Rattle.state_test.specs.Tested.{length_fits, lengths_fit}
+use Rattle.state_test.specs.Tested.{length_fits}
 use Rattle.state_test.proofs.lengths_fit.Goals as goal
 
 pub loop-i-preserved : goal.loop-i-preserved

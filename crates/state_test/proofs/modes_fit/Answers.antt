@@ -1,14 +1,9 @@
-use borrow.Author.Rules.{rules}
-use Prim.Native.Nat.{◌-◌, ◌≤◌}
+use Prim.Native.Nat.{◌-◌}
 use mathlib.Core.Path.{◌≡◌, sym, ◌∙◌, ap}
-use mathlib.Core.Bool.{true, false}
 use native.Mathlib.Omega.{arith}
 use lib.Dec.{leb}
 use lib.ListN.{length, get_or}
-use borrow.Author.Tests.{le-leb, lt-leb}
 use Rattle.model.specs.Words.{all}
-use Rattle.model.proofs.Searches.{all_more, all-stop, all_end}
-use Rattle.state_test.specs.Tested.{modes_fit}
 use Rattle.state_test.proofs.Judged.{all_placed}
 use Rattle.state_test.proofs.modes_fit.Goals as goal
 

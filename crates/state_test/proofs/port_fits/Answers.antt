@@ -5,7 +5,6 @@ use lib.Dec.{eqb}
 use Rattle.tables.specs.Shown as Shown
 use Rattle.ports.specs.Held.{row_of}
 use Rattle.state_test.proofs.Judged.{mark-out, validity-out, index-out, count-out, uncreated, created}
-use borrow.Author.Rules.{rules}
 use Rattle.state_test.proofs.port_fits.Goals as goal
 
 pub returns-then-created-gt1 : goal.returns-then-created-gt1

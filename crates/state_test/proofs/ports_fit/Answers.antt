@@ -1,11 +1,9 @@
-use Prim.Native.Nat.{◌+◌, ◌-◌, ◌≤◌, ◌<◌}
+use Prim.Native.Nat.{◌+◌, ◌-◌, ◌<◌}
 use mathlib.Core.Path.{◌≡◌, sym, ◌∙◌, ap, subst}
 use native.Mathlib.Omega.{arith}
-use borrow.Author.Rules.{rules}
-use borrow.Author.Tests.{not-true, not-false}
 use Rattle.model.specs.Words.{all}
 use Rattle.model.specs.Tables.{ports, row, row_at}
-use Rattle.model.proofs.Searches.{all_more, all-stop, all_end}
+use Rattle.model.proofs.Searches.{all_more, all-stop}
 use Rattle.model.proofs.Accepted.{accepted}
 use Rattle.model.specs.Ranged.{RowRanges}
 use Rattle.tables.specs.Shown as Shown

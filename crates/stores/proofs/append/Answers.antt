@@ -2,7 +2,6 @@
 -- Assumes nothing.
 use mathlib.Core.Path.{◌≡◌, ◌∙◌}
 use Prim.Native.Nat.{◌*◌}
-use borrow.Author.Rules.{rules}
 use Rattle.stores.specs.Ring.{appended, pasted, slot_of}
 use Rattle.stores.proofs.append.Goals as goal
 

@@ -1,6 +1,5 @@
 -- `stores::drop_oldest` meets its contract: the slots stay, the oldest place goes on by one.
 -- Assumes nothing.
-use borrow.Author.Rules.{rules}
 use Rattle.stores.specs.Ring.{dropped}
 use Rattle.stores.proofs.drop_oldest.Goals as goal
 

@@ -1,11 +1,11 @@
-use mathlib.Core.Path.{◌≡◌, refl, sym, ◌∙◌}
-use Prim.Native.Nat.{ℕ, ◌-◌, ◌≤◌}
+use mathlib.Core.Path.{◌≡◌, sym, ◌∙◌}
+use Prim.Native.Nat.{ℕ, ◌≤◌}
 use native.Mathlib.Omega.{arith}
 use native.Mathlib.Nat.{zero-add}
 use mathlib.Core.List.{List}
 use Rattle.model.specs.Words.{filled, zeros}
 use lib.ListN.{length, take, drop, length-set, length-drop}
-use lib.Seq.{paste, get_or-drop, length-take-le}
+use lib.Seq.{get_or-drop, length-take-le}
 use borrow.Author.Rules.{rules}
 use Rattle.stores.proofs.Lists.{filled-pasted, paste-turn}
 use Rattle.stores.proofs.letter_of.Goals as goal

@@ -1,15 +1,9 @@
 -- `stores::letter_of` meets its contract. The loop's invariant: the first i bytes are copied over the zeros. The measure is what is left of the size.
 -- Assumes nothing.
-use mathlib.Core.Path.{◌≡◌, refl, sym, ◌∙◌}
-use Prim.Native.Nat.{ℕ, ◌-◌, ◌≤◌}
-use native.Mathlib.Omega.{arith}
-use native.Mathlib.Nat.{zero-add}
-use mathlib.Core.List.{List}
-use Rattle.model.specs.Words.{filled, zeros}
-use lib.ListN.{length, take, drop, length-set, length-drop}
-use lib.Seq.{paste, get_or-drop, length-take-le}
-use borrow.Author.Rules.{rules}
-use Rattle.stores.proofs.Lists.{filled-pasted, paste-turn}
+use mathlib.Core.Path.{◌≡◌}
+use Prim.Native.Nat.{◌-◌, ◌≤◌}
+use lib.ListN.{length, drop}
+use lib.Seq.{paste}
 use Rattle.stores.proofs.letter_of.Given as goal
 
 abbrev pub invariant-loop-i : goal.invariant-loop-i

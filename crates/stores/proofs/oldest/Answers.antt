@@ -1,9 +1,9 @@
 -- `stores::oldest` meets its contract: the letter is made of the bytes of the slot 0 places behind the oldest.
 -- Assumes nothing.
-use mathlib.Core.Path.{◌≡◌, ◌∙◌, sym, ap}
-use Prim.Native.Nat.{◌≤◌, ◌*◌}
+use mathlib.Core.Path.{◌∙◌, sym, ap}
+use Prim.Native.Nat.{◌*◌}
 use native.Mathlib.Omega.{arith}
-use lib.ListN.{length, get_or, take, drop}
+use lib.ListN.{get_or, take, drop}
 use Rattle.stores.specs.Ring.{oldest_of, slot_of, letter_of}
 use Rattle.stores.proofs.Slots.{message-stood}
 use borrow.Author.Rules.{rules}

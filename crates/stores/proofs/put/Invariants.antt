@@ -1,12 +1,9 @@
 -- `stores::put` meets its contract. The loop's invariant: the first i of the 64 bytes are copied. The measure is what is left of the 64.
 -- Assumes nothing.
-use mathlib.Core.Path.{◌≡◌, refl, ◌∙◌}
+use mathlib.Core.Path.{◌≡◌}
 use Prim.Native.Nat.{◌-◌, ◌≤◌}
-use native.Mathlib.Omega.{arith}
-use lib.ListN.{length, length-set}
-use lib.Seq.{paste, paste-zero}
-use borrow.Author.Rules.{rules}
-use Rattle.stores.proofs.Lists.{paste-pasted, paste-turn}
+use lib.ListN.{length}
+use lib.Seq.{paste}
 use Rattle.stores.proofs.put.Given as goal
 
 abbrev pub invariant-loop-i : goal.invariant-loop-i

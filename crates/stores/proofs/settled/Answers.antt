@@ -1,13 +1,12 @@
 use mathlib.Core.Path.{◌≡◌, sym, ap, ap₂, ◌∙◌}
 use mathlib.Core.List.{List}
-use Prim.Native.Nat.{ℕ, ◌+◌, ◌-◌, ◌*◌, ◌%◌, ◌≤◌, ◌<◌}
+use Prim.Native.Nat.{ℕ, ◌+◌, ◌*◌, ◌%◌, ◌≤◌, ◌<◌}
 use native.Mathlib.Omega.{arith}
 use lib.ListN.{length, get_or, take, drop, set}
 use lib.Seq.{take-length}
 use borrow.Author.Rules.{rules}
 use Rattle.model.specs.State.{Message}
 use Rattle.stores.specs.Ring.{slot_of, message_in, letter_of, queue_of, no_messages, pasted, appended, lay_out}
-use Rattle.stores.specs.declared.Store.{Store}
 use Rattle.stores.specs.declared.Letter.{Letter}
 use Rattle.stores.proofs.Slots.{message-stood}
 use Rattle.stores.proofs.Laws.{queue-length, lay_out-none, lay_out-bytes, lay_out-next}

@@ -2,7 +2,6 @@
 use mathlib.Core.Path.{sym, ◌∙◌, ap}
 use Rattle.model.specs.Load.{is_accepted, accepts}
 use Rattle.loader.specs.Shown.{verdict_of}
-use borrow.Author.Rules.{rules}
 use Rattle.tested_run.proofs.is_accepted.Goals as goal
 
 pub returns-in-Accepted : goal.returns-in-Accepted

@@ -34,8 +34,8 @@ put_together-requires-clause-stored c =
     let t = c.args.t.now in
     let a = accepted t c.requires.t_value.0 in
     let ready = c.run_events-last.ensures.ready in record {
-        rows = ready.held.rows;
-        blocks = ready.held.blocks;
-        few = omega (arith, c.requires.t_value.1.ported, a.few_ports);
-        each = λ k h. sized-at ready.held k (omega (arith, h, c.requires.t_value.1.ported));
-      }
+      rows = ready.held.rows;
+      blocks = ready.held.blocks;
+      few = omega (arith, c.requires.t_value.1.ported, a.few_ports);
+      each = λ k h. sized-at ready.held k (omega (arith, h, c.requires.t_value.1.ported));
+    }

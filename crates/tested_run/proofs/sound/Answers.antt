@@ -1,8 +1,6 @@
 -- `tested_run::sound` meets its contract: tables first, then the state. Assumes nothing.
 use mathlib.Core.Path.{sym, ◌∙◌}
-use borrow.Author.Tests.{not-true, not-false}
 use Rattle.tested_run.proofs.Laws
-use borrow.Author.Rules.{rules}
 use Rattle.tested_run.proofs.sound.Goals as goal
 
 pub returns-then-not-is_accepted : goal.returns-then-not-is_accepted

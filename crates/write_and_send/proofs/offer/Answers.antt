@@ -1,6 +1,6 @@
 -- `write_and_send::offer` meets its contract: a full store stays, and one with room takes the letter. Assumes nothing.
 use Prim.Native.Nat.{◌≤◌, ◌<◌}
-use mathlib.Core.Path.{◌≡◌, sym, ◌∙◌, ap}
+use mathlib.Core.Path.{sym, ◌∙◌, ap}
 use native.Mathlib.Omega.{arith}
 use lib.ListN.{length}
 use Rattle.model.specs.State.{with_queue}
@@ -8,7 +8,6 @@ use Rattle.stores.specs.Ring.{queue_of, appended, written, lettered}
 use Rattle.ports.specs.Held.{port_at}
 use Rattle.ports.proofs.Ports.{put_is, put-kept, count-is, store-count}
 use Rattle.write_and_send.proofs.Laws.{offer-full, offer-room, taken}
-use borrow.Author.Rules.{rules}
 use Rattle.write_and_send.proofs.offer.Goals as goal
 
 pub returns-then-depth-number : goal.returns-then-depth-number

@@ -1,22 +1,17 @@
 -- `write_and_send::put` meets its contract: the tests in their order, then the letter is stored. Assumes nothing.
 use Prim.Native.Nat.{◌≤◌}
-use mathlib.Core.Path.{sym, ◌∙◌, ap, subst}
+use mathlib.Core.Path.{sym, ◌∙◌, ap}
 use native.Mathlib.Omega.{arith}
-use borrow.Author.Tests.{not-true, not-false}
-use lib.ListN.{length, take, drop}
 use Rattle.model.specs.State.{with_queue}
 use Rattle.model.specs.Services.{stored}
 use Rattle.tables.specs.Shown.{row_of}
 use Rattle.events.specs.Shown.{call_of}
-use Rattle.stores.specs.declared.Letter.{Letter}
 use Rattle.stores.specs.Ring.{written}
-use Rattle.stores.proofs.Lists.{length-filled}
 use Rattle.ports.specs.Held.{port_at}
 use Rattle.ports.proofs.Ports.{put_is}
-use Rattle.write_and_send.proofs.Laws.{few-written, written_back}
+use Rattle.write_and_send.proofs.Laws.{written_back}
 use Rattle.service_contracts.proofs.Refused.{kept}
 use Rattle.write_and_send.proofs.Cases.{put-empty, put-long, put_wrong, put-stored}
-use borrow.Author.Rules.{rules}
 use Rattle.write_and_send.proofs.put.Goals as goal
 
 pub returns-then-f-eq0 : goal.returns-then-f-eq0

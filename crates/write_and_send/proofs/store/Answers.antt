@@ -1,15 +1,13 @@
 -- `write_and_send::store` meets its contract, by the case of the row. Assumes nothing.
 use Prim.Native.Nat.{◌<◌}
-use mathlib.Core.Path.{◌≡◌, sym, ◌∙◌, ap, subst}
+use mathlib.Core.Path.{sym, ◌∙◌, ap, subst}
 use native.Mathlib.Omega.{arith}
-use lib.ListN.{length}
 use Rattle.model.specs.State.{with_queue, offer}
 use Rattle.stores.specs.declared.Store.{Store}
 use Rattle.stores.specs.Ring.{queue_of, appended, written, lettered, no_messages}
 use Rattle.ports.specs.Held.{port_at}
 use Rattle.ports.proofs.Ports.{put_is}
-use Rattle.write_and_send.proofs.Laws.{alone, stored-sampling, stored-queuing, depth-few}
-use borrow.Author.Rules.{rules}
+use Rattle.write_and_send.proofs.Laws.{alone, stored-sampling, stored-queuing}
 use Rattle.write_and_send.proofs.store.Goals as goal
 
 pub returns-in-Sampling : goal.returns-in-Sampling

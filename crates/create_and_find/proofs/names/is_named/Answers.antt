@@ -1,8 +1,6 @@
 -- `create_and_find::names::is_named` meets its contract: the tests in their order. Assumes nothing.
-use mathlib.Core.Path.{◌≡◌, sym, ◌∙◌, ap, subst}
+use mathlib.Core.Path.{sym, ◌∙◌, ap}
 use lib.Dec.{eqb}
-use borrow.Author.Rules.{rules}
-use borrow.Author.Tests.{not-true, not-false}
 use Rattle.service_contracts.proofs.Holding.{row-at}
 use Rattle.create_and_find.proofs.LookUp.{not-owner, not-mode, by_name}
 use Rattle.create_and_find.proofs.names.is_named.Goals as goal

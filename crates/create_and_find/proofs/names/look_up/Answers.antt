@@ -1,11 +1,5 @@
-use Prim.Native.Nat.{◌-◌, ◌≤◌}
-use mathlib.Core.Path.{◌≡◌}
 use native.Mathlib.Omega.{arith}
-use borrow.Author.Rules.{rules}
-use Rattle.model.specs.Words.{first}
-use Rattle.model.specs.Tables.{ports}
-use Rattle.model.specs.Services.{is_named, look_up}
-use Rattle.create_and_find.proofs.LookUp.{whole, found, passed, none}
+use Rattle.create_and_find.proofs.LookUp.{whole, passed}
 use Rattle.create_and_find.proofs.names.look_up.Goals as goal
 
 pub loop-k-init : goal.loop-k-init

@@ -1,12 +1,9 @@
 -- `create_and_find::names::look_up` meets its contract: the whole search is what is left of it. Assumes nothing.
 use Prim.Native.Nat.{◌-◌, ◌≤◌}
 use mathlib.Core.Path.{◌≡◌}
-use native.Mathlib.Omega.{arith}
-use borrow.Author.Rules.{rules}
 use Rattle.model.specs.Words.{first}
 use Rattle.model.specs.Tables.{ports}
 use Rattle.model.specs.Services.{is_named, look_up}
-use Rattle.create_and_find.proofs.LookUp.{whole, found, passed, none}
 use Rattle.create_and_find.proofs.names.look_up.Given as goal
 
 abbrev pub invariant-loop-k : goal.invariant-loop-k

@@ -1,5 +1,5 @@
 -- `events::answers::lay_answer` meets its contract: the head, and then the message. Assumes nothing.
-use Rattle.std.proofs.Common.{◌++◌, take, ap, ◌∙◌, rules}
+use Rattle.std.proofs.Common.{◌++◌, take, ap, ◌∙◌}
 use Rattle.events.specs.Shown.{head_bytes, answer_bytes}
 use Rattle.events.proofs.answers.lay_answer.Goals as goal
 

@@ -1,5 +1,5 @@
-use Rattle.std.proofs.Common.{◌≡◌, ◌-◌, ◌≤◌, ◌++◌, length, take, sym, refl, ap, ◌∙◌, append-nil, add-one, arith, length-set, drop_of_length-le, take_all, rules}
-use lib.Seq.{paste, paste-zero, paste-suc}
+use Rattle.std.proofs.Common.{◌≡◌, length, sym, ap, ◌∙◌, add-one, arith, length-set}
+use lib.Seq.{paste, paste-suc}
 use Rattle.events.proofs.answers.lay_message.Goals as goal
 
 pub loop-i-preserved : goal.loop-i-preserved

@@ -1,6 +1,6 @@
 -- `events::answers::lay_message` meets its contract: after i turns the first i bytes of the message are laid. Assumes nothing.
-use Rattle.std.proofs.Common.{◌≡◌, ◌-◌, ◌≤◌, ◌++◌, length, take, sym, refl, ap, ◌∙◌, append-nil, add-one, arith, length-set, drop_of_length-le, take_all, rules}
-use lib.Seq.{paste, paste-zero, paste-suc}
+use Rattle.std.proofs.Common.{◌≡◌, ◌-◌, ◌≤◌, length}
+use lib.Seq.{paste}
 use Rattle.events.proofs.answers.lay_message.Given as goal
 
 abbrev pub invariant-loop-i : goal.invariant-loop-i

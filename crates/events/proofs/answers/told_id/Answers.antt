@@ -1,6 +1,5 @@
 -- `events::answers::told_id` meets its contract: it is the empty answer with its field. Assumes nothing.
 use Rattle.events.specs.Shown.{refused_as, told_as}
-use Rattle.std.proofs.Common.{rules}
 use Rattle.events.proofs.answers.told_id.Goals as goal
 
 pub returns : goal.returns

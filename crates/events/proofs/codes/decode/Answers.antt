@@ -1,6 +1,5 @@
 -- `events::codes::decode` meets its contract: each answer from the tests that led there. Assumes nothing.
-use Rattle.std.proofs.Common.{sym, ap, ◌∙◌, rules}
-use borrow.Author.Tests.{not-true, not-false}
+use Rattle.std.proofs.Common.{sym, ap, ◌∙◌}
 use Rattle.model.specs.Events.{decode}
 use Rattle.events.proofs.Table.{decode_call, decode-clock, decode-move}
 use Rattle.events.proofs.codes.decode.Goals as goal

@@ -1,6 +1,5 @@
 -- `kernel::reader::is_handed` meets its contract: the tests in their order. Assumes nothing.
 use mathlib.Core.Path.{sym}
-use borrow.Author.Rules.{rules}
 use Rattle.kernel.proofs.Laws
 use Rattle.kernel.proofs.reader.is_handed.Goals as goal
 

@@ -1,10 +1,6 @@
-use borrow.Author.Rules.{rules}
-use Prim.Native.Nat.{◌-◌}
-use mathlib.Core.Path.{◌≡◌, sym, ◌∙◌}
+use mathlib.Core.Path.{sym, ◌∙◌}
 use native.Mathlib.Numerals.{add-one}
-use Rattle.model.specs.Words.{all}
-use Rattle.model.proofs.Searches.{all_more, all-stop, all_end}
-use Rattle.record_fields.specs.Pieces.{ended}
+use Rattle.model.proofs.Searches.{all_more, all-stop}
 use Rattle.tables.proofs.Answers.{fails, holds}
 use Rattle.record_fields.proofs.Searched.{follows}
 use Rattle.record_fields.proofs.names.name_ended.Goals as goal

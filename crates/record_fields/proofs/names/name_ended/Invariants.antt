@@ -1,13 +1,9 @@
 -- `record_fields::names::name_ended` meets its contract. The loop's invariant: the whole search is what is left of it from k on.
 -- Assumes nothing.
-use borrow.Author.Rules.{rules}
 use Prim.Native.Nat.{◌-◌}
-use mathlib.Core.Path.{◌≡◌, sym, ◌∙◌}
-use native.Mathlib.Numerals.{add-one}
+use mathlib.Core.Path.{◌≡◌}
 use Rattle.model.specs.Words.{all}
-use Rattle.model.proofs.Searches.{all_more, all-stop, all_end}
 use Rattle.record_fields.specs.Pieces.{ended}
-use Rattle.tables.proofs.Answers.{fails, holds}
 use Rattle.record_fields.proofs.Searched.{follows}
 use Rattle.record_fields.proofs.names.name_ended.Given as goal
 

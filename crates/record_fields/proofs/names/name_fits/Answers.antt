@@ -1,6 +1,5 @@
 -- `record_fields::names::name_fits` meets its contract: the first test says whether the search decides.
 -- Assumes nothing.
-use borrow.Author.Rules.{rules}
 use borrow.Author.Tests.{eq-eqb, ne_eqb}
 use Rattle.model.specs.Load.{name_fits}
 use Rattle.record_fields.proofs.names.name_fits.Goals as goal

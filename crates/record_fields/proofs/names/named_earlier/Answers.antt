@@ -1,10 +1,6 @@
-use borrow.Author.Rules.{rules}
-use Prim.Native.Nat.{◌-◌}
-use mathlib.Core.Path.{◌≡◌, sym, ◌∙◌}
-use Rattle.model.specs.Words.{any}
+use mathlib.Core.Path.{sym, ◌∙◌}
 use Rattle.model.specs.Load.{same_owner_and_name}
-use Rattle.model.proofs.Searches.{any-more, any-stop, any-end}
-use Rattle.record_fields.specs.Pieces.{named_earlier}
+use Rattle.model.proofs.Searches.{any-more}
 use Rattle.record_fields.proofs.names.named_earlier.Goals as goal
 
 pub loop-q-preserved : goal.loop-q-preserved

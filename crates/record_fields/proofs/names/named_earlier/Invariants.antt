@@ -1,11 +1,9 @@
 -- `record_fields::names::named_earlier` meets its contract. The loop's invariant: the whole search is what is left of it from q on.
 -- Assumes nothing.
-use borrow.Author.Rules.{rules}
 use Prim.Native.Nat.{◌-◌}
-use mathlib.Core.Path.{◌≡◌, sym, ◌∙◌}
+use mathlib.Core.Path.{◌≡◌}
 use Rattle.model.specs.Words.{any}
 use Rattle.model.specs.Load.{same_owner_and_name}
-use Rattle.model.proofs.Searches.{any-more, any-stop, any-end}
 use Rattle.record_fields.specs.Pieces.{named_earlier}
 use Rattle.record_fields.proofs.names.named_earlier.Given as goal
 

@@ -1,6 +1,5 @@
 -- `record_fields::names::port_name_fault` meets its contract: the test on the name says whether the search decides.
 -- Assumes nothing.
-use borrow.Author.Rules.{rules}
 use Rattle.model.specs.Load.{port_name_fault}
 use Rattle.tables.proofs.Answers.{fails, holds}
 use Rattle.record_fields.proofs.names.port_name_fault.Goals as goal

@@ -1,6 +1,5 @@
 -- `record_fields::names::same_owner_and_name` meets its contract: the test on the owners says whether the names decide.
 -- Assumes nothing.
-use borrow.Author.Rules.{rules}
 use borrow.Author.Tests.{eq-eqb, ne_eqb}
 use Rattle.model.specs.Tables.{row_at}
 use Rattle.model.specs.Load.{same_owner_and_name}

@@ -1,6 +1,5 @@
 -- `record_fields::ranges::channel_fits` meets its contract: each test is a part of the definition, in its order.
 -- Assumes nothing.
-use borrow.Author.Rules.{rules}
 use mathlib.Core.Path.{ap, ◌∙◌}
 use Rattle.model.specs.Words.{between}
 use Rattle.model.specs.Load.{channel_fits}

@@ -1,6 +1,5 @@
 -- `record_fields::ranges::field_fault` meets its contract: the record's kind says which test is meant.
 -- Assumes nothing.
-use borrow.Author.Rules.{rules}
 use mathlib.Core.Path.{ap}
 use mathlib.Core.Bool.{not}
 use borrow.Author.Tests.{eq-eqb, ne_eqb}

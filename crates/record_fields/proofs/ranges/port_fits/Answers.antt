@@ -1,6 +1,5 @@
 -- `record_fields::ranges::port_fits` meets its contract: each test is a part of the definition, in its order.
 -- Assumes nothing.
-use borrow.Author.Rules.{rules}
 use Rattle.model.specs.Load.{port_fits}
 use Rattle.record_fields.proofs.ranges.port_fits.Goals as goal
 

@@ -1,6 +1,5 @@
 -- `record_fields::ranges::row_fits` meets its contract: each test is a part of the definition, in its order.
 -- Assumes nothing.
-use borrow.Author.Rules.{rules}
 use borrow.Author.Tests.{le-leb, lt-leb}
 use Rattle.model.specs.Tables.{row_at}
 use Rattle.model.specs.Load.{row_fits}

@@ -1,11 +1,7 @@
-use borrow.Author.Rules.{rules}
-use Prim.Native.Nat.{◌-◌}
-use mathlib.Core.Path.{◌≡◌, sym, ◌∙◌}
-use borrow.Author.Tests.{eq-eqb, ne_eqb}
-use Rattle.model.specs.Words.{all}
-use Rattle.model.proofs.Searches.{all_more, all-stop, all_end}
-use Rattle.record_fields.specs.Pieces.{unused_blank}
-use Rattle.record_fields.proofs.Searched.{is_unused, unused-whole}
+use mathlib.Core.Path.{sym, ◌∙◌}
+use borrow.Author.Tests.{eq-eqb}
+use Rattle.model.proofs.Searches.{all_more}
+use Rattle.record_fields.proofs.Searched.{is_unused}
 use Rattle.record_fields.proofs.ranges.unused_blank.Goals as goal
 
 pub loop-j-preserved : goal.loop-j-preserved

@@ -1,13 +1,10 @@
 -- `record_fields::ranges::unused_blank` meets its contract. The loop's invariant: the whole search is what is left of it from j on.
 -- Assumes nothing.
-use borrow.Author.Rules.{rules}
 use Prim.Native.Nat.{◌-◌}
-use mathlib.Core.Path.{◌≡◌, sym, ◌∙◌}
-use borrow.Author.Tests.{eq-eqb, ne_eqb}
+use mathlib.Core.Path.{◌≡◌}
 use Rattle.model.specs.Words.{all}
-use Rattle.model.proofs.Searches.{all_more, all-stop, all_end}
 use Rattle.record_fields.specs.Pieces.{unused_blank}
-use Rattle.record_fields.proofs.Searched.{is_unused, unused-whole}
+use Rattle.record_fields.proofs.Searched.{is_unused}
 use Rattle.record_fields.proofs.ranges.unused_blank.Given as goal
 
 abbrev pub invariant-loop-j : goal.invariant-loop-j

@@ -1,6 +1,5 @@
 -- `record_fields::ranges::window_fits` meets its contract: each test is a part of the definition, in its order.
 -- Assumes nothing.
-use borrow.Author.Rules.{rules}
 use Rattle.model.specs.Load.{window_fits}
 use Rattle.tables.proofs.Answers.{fails, holds}
 use Rattle.record_fields.proofs.ranges.window_fits.Goals as goal

@@ -1,11 +1,8 @@
-use borrow.Author.Rules.{rules}
-use Prim.Native.Nat.{◌-◌, ◌≤◌}
-use mathlib.Core.Path.{◌≡◌, sym, ◌∙◌}
+use mathlib.Core.Path.{◌∙◌}
 use native.Mathlib.Omega.{arith}
-use borrow.Author.Tests.{eq-eqb, ne_eqb}
-use Rattle.model.specs.Words.{blank}
-use Rattle.model.proofs.Searches.{all_more, all-stop, all_end}
-use Rattle.tables.proofs.Searched.{is_zero, blank-whole}
+use borrow.Author.Tests.{eq-eqb}
+use Rattle.model.proofs.Searches.{all_more}
+use Rattle.tables.proofs.Searched.{is_zero}
 use Rattle.tables.proofs.bytes.blank.Goals as goal
 
 pub loop-k-preserved : goal.loop-k-preserved

@@ -1,13 +1,8 @@
 -- `tables::bytes::blank` meets its contract. The loop's invariant: the whole search is what is left of it from k on.
 -- Assumes nothing.
-use borrow.Author.Rules.{rules}
 use Prim.Native.Nat.{◌-◌, ◌≤◌}
-use mathlib.Core.Path.{◌≡◌, sym, ◌∙◌}
-use native.Mathlib.Omega.{arith}
-use borrow.Author.Tests.{eq-eqb, ne_eqb}
+use mathlib.Core.Path.{◌≡◌}
 use Rattle.model.specs.Words.{blank}
-use Rattle.model.proofs.Searches.{all_more, all-stop, all_end}
-use Rattle.tables.proofs.Searched.{is_zero, blank-whole}
 use Rattle.tables.proofs.bytes.blank.Given as goal
 
 abbrev pub invariant-loop-k : goal.invariant-loop-k

@@ -1,6 +1,5 @@
 -- `tables::channels::destination_count` meets its contract: it is the record's byte 1.
 -- Assumes nothing.
-use borrow.Author.Rules.{rules}
 use Rattle.model.specs.Tables.{destinations}
 use Rattle.tables.proofs.channels.destination_count.Goals as goal
 

@@ -1,6 +1,5 @@
 -- `tables::channels::destination_port` meets its contract, by what `id_at` and `port_of` ensure.
 -- Assumes nothing.
-use borrow.Author.Rules.{rules}
 use native.Mathlib.Numerals.{add-one}
 use Rattle.model.specs.Tables.{destination_port}
 use Rattle.tables.proofs.channels.destination_port.Goals as goal

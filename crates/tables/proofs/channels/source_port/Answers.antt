@@ -1,6 +1,5 @@
 -- `tables::channels::source_port` meets its contract, by what `id_at` and `port_of` ensure.
 -- Assumes nothing.
-use borrow.Author.Rules.{rules}
 use Rattle.model.specs.Tables.{source_port}
 use Rattle.tables.proofs.channels.source_port.Goals as goal
 

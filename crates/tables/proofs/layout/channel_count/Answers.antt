@@ -1,6 +1,5 @@
 -- `tables::layout::channel_count` meets its contract: the ports end within the records.
 -- Assumes nothing.
-use borrow.Author.Rules.{rules}
 use native.Mathlib.Omega.{arith}
 use Rattle.model.specs.Tables.{channels}
 use Rattle.tables.proofs.Places.{ports-within}

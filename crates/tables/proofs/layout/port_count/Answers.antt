@@ -1,6 +1,5 @@
 -- `tables::layout::port_count` meets its contract: the ports end where they start or after it.
 -- Assumes nothing.
-use borrow.Author.Rules.{rules}
 use native.Mathlib.Omega.{arith}
 use Rattle.model.specs.Tables.{ports}
 use Rattle.tables.proofs.Places.{ports-after}

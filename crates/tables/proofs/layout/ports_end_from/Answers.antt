@@ -1,6 +1,5 @@
 -- `tables::layout::ports_end_from` meets its contract: the ports are a run from where the windows end on.
 -- Assumes nothing.
-use borrow.Author.Rules.{rules}
 use mathlib.Core.Path.{sym, ◌∙◌}
 use Rattle.tables.proofs.Places.{ports-run}
 use Rattle.tables.proofs.layout.ports_end_from.Goals as goal

@@ -1,10 +1,6 @@
-use borrow.Author.Rules.{rules}
-use Prim.Native.Nat.{◌-◌}
-use mathlib.Core.Path.{◌≡◌, sym, ◌∙◌}
-use Rattle.model.specs.Words.{first}
-use Rattle.model.specs.Tables.{records}
-use Rattle.model.proofs.Searches.{first_more, first-stop, first-end}
-use Rattle.tables.specs.Runs.{other_kind, run_end}
+use mathlib.Core.Path.{sym, ◌∙◌}
+use Rattle.model.proofs.Searches.{first_more, first-stop}
+use Rattle.tables.specs.Runs.{other_kind}
 use Rattle.tables.proofs.Places.{is-kind, is-other}
 use Rattle.tables.proofs.layout.run_end.Goals as goal
 

@@ -1,13 +1,10 @@
 -- `tables::layout::run_end` meets its contract. The loop's invariant: the whole search is what is left of it from r on.
 -- Assumes nothing.
-use borrow.Author.Rules.{rules}
 use Prim.Native.Nat.{◌-◌}
-use mathlib.Core.Path.{◌≡◌, sym, ◌∙◌}
+use mathlib.Core.Path.{◌≡◌}
 use Rattle.model.specs.Words.{first}
 use Rattle.model.specs.Tables.{records}
-use Rattle.model.proofs.Searches.{first_more, first-stop, first-end}
 use Rattle.tables.specs.Runs.{other_kind, run_end}
-use Rattle.tables.proofs.Places.{is-kind, is-other}
 use Rattle.tables.proofs.layout.run_end.Given as goal
 
 abbrev pub invariant-loop-r : goal.invariant-loop-r

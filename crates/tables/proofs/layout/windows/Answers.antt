@@ -1,6 +1,5 @@
 -- `tables::layout::windows` meets its contract: the windows are a run from the first record on.
 -- Assumes nothing.
-use borrow.Author.Rules.{rules}
 use mathlib.Core.Path.{sym, ◌∙◌}
 use Rattle.tables.proofs.Places.{windows-run}
 use Rattle.tables.proofs.layout.windows.Goals as goal

@@ -1,10 +1,6 @@
-use borrow.Author.Rules.{rules}
-use Prim.Native.Nat.{◌-◌}
-use mathlib.Core.Path.{◌≡◌, sym, ◌∙◌}
-use borrow.Author.Tests.{eq-eqb, ne_eqb}
-use Rattle.model.specs.Words.{all}
-use Rattle.model.specs.Tables.{same_name}
-use Rattle.model.proofs.Searches.{all_more, all-stop, all_end}
+use mathlib.Core.Path.{◌∙◌}
+use borrow.Author.Tests.{eq-eqb}
+use Rattle.model.proofs.Searches.{all_more}
 use Rattle.tables.proofs.Searched.{same_at, name-whole}
 use Rattle.tables.proofs.names.same_name.Goals as goal
 

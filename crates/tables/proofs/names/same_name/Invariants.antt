@@ -1,13 +1,10 @@
 -- `tables::names::same_name` meets its contract. The loop's invariant: the whole search is what is left of it from k on.
 -- Assumes nothing.
-use borrow.Author.Rules.{rules}
 use Prim.Native.Nat.{◌-◌}
-use mathlib.Core.Path.{◌≡◌, sym, ◌∙◌}
-use borrow.Author.Tests.{eq-eqb, ne_eqb}
+use mathlib.Core.Path.{◌≡◌}
 use Rattle.model.specs.Words.{all}
 use Rattle.model.specs.Tables.{same_name}
-use Rattle.model.proofs.Searches.{all_more, all-stop, all_end}
-use Rattle.tables.proofs.Searched.{same_at, name-whole}
+use Rattle.tables.proofs.Searched.{same_at}
 use Rattle.tables.proofs.names.same_name.Given as goal
 
 abbrev pub invariant-loop-k : goal.invariant-loop-k

@@ -1,6 +1,5 @@
 -- `tables::rows::port_row` meets its contract: each field is the row's, by what the readers of numbers ensure.
 -- Assumes nothing.
-use borrow.Author.Rules.{rules}
 use Rattle.model.specs.Tables.{row_at}
 use Rattle.tables.proofs.rows.port_row.Goals as goal
 

@@ -1,6 +1,5 @@
 -- `tables::rows::row_largest` meets its contract: it is a number of the row's record.
 -- Assumes nothing.
-use borrow.Author.Rules.{rules}
 use Rattle.model.specs.Tables.{row_at}
 use Rattle.tables.proofs.rows.row_largest.Goals as goal
 
