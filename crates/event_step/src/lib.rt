@@ -15,7 +15,7 @@ use service_contracts::Layout;
 use tables::MOVER;
 
 // An event's answer, and the clock after it.
-#[derive(Drop)]
+#[derive(Clone, Copy)]
 pub struct Turned {
     pub answer: Answer,
     pub clock: Clock,

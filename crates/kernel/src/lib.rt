@@ -22,14 +22,14 @@ pub const ANSWERS_SHORT: u8 = 28;
 pub const STATE_REFUSED: u8 = 29;
 
 // What a load gives: the verdict, and the state beside it.
-#[derive(Drop)]
+#[derive(Clone, Copy)]
 pub struct Loaded {
     pub verdict: Verdict,
     pub state: State,
 }
 
 // What a call on a list gives: 0 or the refusal (27, 28, 29), and the state.
-#[derive(Drop)]
+#[derive(Clone, Copy)]
 pub struct Ran {
     pub refusal: u8,
     pub state: State,

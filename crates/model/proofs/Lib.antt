@@ -1,5 +1,5 @@
--- The check goes through these files by name, each after those that it cites, and first through those that have a pub name. So the rows by hand, which cite
--- definitions alone, are computed before any law: a definition that is wrong, with proofs that fit it, is refused there. They are the first four.
+-- The rows by hand are the first four files. They cite definitions alone and come before any law: a definition that is wrong, with proofs that fit
+-- it, is refused there.
 pub mod AcceptOrRefuse
 pub mod AllOrNothing
 pub mod AnotherListing

@@ -17,7 +17,7 @@ pub const TURN_SIZE: usize = 32_000;
 pub const TURN_TEXT: usize = 127_218;
 
 // What a turn leaves: the state, and where its text ends.
-#[derive(Drop)]
+#[derive(Clone, Copy)]
 pub struct Turned {
     pub state: State,
     pub end: usize,
