@@ -25,6 +25,7 @@ UNFIT = {
     r"^`[^`]+` is not in scope": "an unknown name",
     r"\bno occurrence of\b": "a rewrite that found nothing",
     r"\bno part of the goal\b": "a rewrite that found nothing",
+    r"^`[^`]+` was not admitted|\bthat depends? on `": "an error of another place alone",
 }
 REFUSED = "refused, as it must be"
 LIMIT = "(only by a limit of the prover"
