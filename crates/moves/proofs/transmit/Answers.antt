@@ -32,7 +32,7 @@ returns c =
     let counted = c.waiting.ensures in
     let some = c.if-waiting-eq0.false in
     moved c.requires.held c.args.c c.requires.c_lt_channels c.source_port-k.ensures counted some c.take_oldest-l.ensures
-    c.args.time c.deliver.new.numbers c.deliver.new.bytes c.deliver.ensures c.done.ensures
+    c.args.time c.deliver.new.numbers c.deliver.new.bytes c.deliver.ensures assumption
 
 pub source_port-k-requires-clause-first_channel_value : goal.source_port-k-requires-clause-first_channel_value
 source_port-k-requires-clause-first_channel_value c =

@@ -18,6 +18,6 @@ loop-i-preserved c =
     let place = 5 + (a.oldest + l.i) % 8 in
     let more : l.i < a.count = omega arith in
     let fits : length_fits a.largest row a.oldest l.i ≡ true =
-    is-between 1 a.largest (get_or row place 0) (omega (arith, read, c.if-size-lt-SHORTEST.false)) (omega (arith, read, c.if-largest-size.false))
+    is-between 1 a.largest (get_or row place 0) (omega (arith, read)) (omega (arith, read))
     in
     (omega arith, l.invariant.1 ∙ all_more (length_fits a.largest row a.oldest) a.count l.i more fits)
