@@ -24,4 +24,4 @@ returns-then-mode-eq-NORMAL c =
 pub returns : goal.returns
 returns c =
     let a = c.args in
-    rw (made-done a.numbers.now a.bytes.now a.k a.mode (Shown.row_of a.row) (call_of a.f) c.number.ensures c.if-number-eq1.false c.like_row.ensures c.if-not-like_row.false c.if-mode-eq-NORMAL.false) (c.told_id.ensures, put-created a.numbers.now a.bytes.now a.k 1 c.set_number.ensures)
+    rw (made-done a.numbers.now a.bytes.now a.k a.mode (Shown.row_of a.row) (call_of a.f) c.number.ensures c.if-number-eq1.false c.like_row.ensures c.if-not-like_row.false assumption) (c.told_id.ensures, put-created a.numbers.now a.bytes.now a.k 1 c.set_number.ensures)

@@ -14,4 +14,4 @@ pub returns-then-first_port-eq0 : goal.returns-then-first_port-eq0
 returns-then-first_port-eq0 c = sym (without-window _ c.length_fault.ensures c.if-length_fault.false c.first_fault-r.ensures c.records-end.ensures c.if-r-end.false c.windows-first_port.ensures c.if-first_port-eq0.true)
 
 pub returns : goal.returns
-returns c = sym (faultless _ c.length_fault.ensures c.if-length_fault.false c.first_fault-r.ensures c.records-end.ensures c.if-r-end.false c.windows-first_port.ensures c.if-first_port-eq0.false)
+returns c = sym (faultless _ c.length_fault.ensures c.if-length_fault.false c.first_fault-r.ensures c.records-end.ensures c.if-r-end.false c.windows-first_port.ensures assumption)

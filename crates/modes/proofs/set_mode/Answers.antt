@@ -1,14 +1,15 @@
 -- `modes::set_mode` meets its contract: the tests in their order, then the mode and the sweep. Assumes nothing.
 use mathlib.Core.Path.{◌≡◌, refl, ap}
-use borrow.Author.Tests.{ne_eqb}
+use Prim.Native.Nat.{◌≤◌}
 use lib.Dec.{eqb}
 use lib.ListN.{get_or, set}
-use mathlib.Core.Bool.{false, ◌&&◌, and-false}
+use mathlib.Core.Bool.{false, ◌&&◌}
 use Rattle.service_contracts.specs.Did.{shown}
 use Rattle.service_contracts.proofs.Acts.{refused-does}
+use native.Mathlib.Omega.{arith}
 use Rattle.modes.proofs.SetMode
+use Rattle.std.proofs.lemmas.Bool.Decides.{nat_tests}
 use Rattle.modes.proofs.set_mode.Goals as goal
-use Rattle.modes.proofs.set_mode.Goals.{then-m-eq-WARM_START+else-mode-eq-COLD_START, else-m-eq-WARM_START}
 
 pub returns-then-m-gt-NORMAL : goal.returns-then-m-gt-NORMAL
 returns-then-m-gt-NORMAL c =
@@ -54,10 +55,8 @@ returns c =
     let p = c.args.p in
     let m = c.args.m in
     let other : (eqb m 2 && eqb (get_or ms p 0) 1) ≡ false =
-    elim c.if-m-eq-WARM_START.branch [
-      | then-m-eq-WARM_START+else-mode-eq-COLD_START w ↦ rw (ne_eqb (get_or ms p 0) 1 w.if-mode-eq-COLD_START.false) (and-false (eqb m 2))
-      | else-m-eq-WARM_START w ↦ rw (ne_eqb m 2 w.if-m-eq-WARM_START.false)
-    ]
+    grind (arith, nat_tests)
     in
-    λ b clock. rw (SetMode.mode-start t (shown t clock ms n b) p m c.if-m-gt-NORMAL.false c.if-m-eq-NORMAL.false other)
+    let known : m ≤ 3 = omega arith in
+    λ b clock. rw (SetMode.mode-start t (shown t clock ms n b) p m known c.if-m-eq-NORMAL.false other)
     (record { answered = c.done-2.ensures; left = ap (λ ps. record { clock = clock; modes = set ms p m; ports = ps }) (c.unmake_all.ensures b) })

@@ -22,7 +22,7 @@ pub returns-in-Sampling : goal.returns-in-Sampling
 returns-in-Sampling c =
     let a = c.args in
     let q = port_at a.numbers.now a.bytes.now a.k in
-    let made : q.created ≡ 1 = omega (arith, c.if-number-eq0.false, c.number.ensures, created-is a.numbers.now a.bytes.now a.k, c.requires.fits.port.marked) in
+    let made : q.created ≡ 1 = omega (arith, c.number.ensures, created-is a.numbers.now a.bytes.now a.k, c.requires.fits.port.marked) in
     let sampling : (row_of a.row).mode ≡ 0 = ap mode_of c.in-Sampling.is in
     put_is (put-stamped {q = with_queue q (stored (row_of a.row) q.queue (written (lettered a.letter.now a.size)))} c.store.ensures c.set_number.ensures) (sym (arrived-sampling a.time (row_of a.row) (written (lettered a.letter.now a.size)) q made sampling))
 
@@ -30,7 +30,7 @@ pub returns-in-Queuing : goal.returns-in-Queuing
 returns-in-Queuing c =
     let a = c.args in
     let q = port_at a.numbers.now a.bytes.now a.k in
-    let made : q.created ≡ 1 = omega (arith, c.if-number-eq0.false, c.number.ensures, created-is a.numbers.now a.bytes.now a.k, c.requires.fits.port.marked) in
+    let made : q.created ≡ 1 = omega (arith, c.number.ensures, created-is a.numbers.now a.bytes.now a.k, c.requires.fits.port.marked) in
     let queuing : (row_of a.row).mode ≡ 1 = ap mode_of c.in-Queuing.is in
     put_is {q = with_queue q (stored (row_of a.row) q.queue (written (lettered a.letter.now a.size)))} c.store.ensures
     (sym (arrived-queuing a.time (row_of a.row) (written (lettered a.letter.now a.size)) q made queuing))

@@ -19,21 +19,21 @@ returns-then-number-gt1 c =
     let a = c.args in
     let row = Shown.row_of a.row in
     let n = row_of a.numbers.now a.k in
-    sym (validity-out row n (omega (arith, c.number-created.ensures, c.if-created-gt1.false)) (omega (arith, c.number.ensures, c.if-number-gt1.true)))
+    sym (validity-out row n (omega (arith, c.number-created.ensures)) (omega (arith, c.number.ensures, c.if-number-gt1.true)))
 
 pub returns-then-oldest-ge-RING : goal.returns-then-oldest-ge-RING
 returns-then-oldest-ge-RING c =
     let a = c.args in
     let row = Shown.row_of a.row in
     let n = row_of a.numbers.now a.k in
-    sym (index-out row n (omega (arith, c.number-created.ensures, c.if-created-gt1.false)) (omega (arith, c.number.ensures, c.if-number-gt1.false)) (omega (arith, c.number-oldest.ensures, c.if-oldest-ge-RING.true)))
+    sym (index-out row n (omega (arith, c.number-created.ensures)) (omega (arith, c.number.ensures)) (omega (arith, c.number-oldest.ensures, c.if-oldest-ge-RING.true)))
 
 pub returns-then-room-count : goal.returns-then-room-count
 returns-then-room-count c =
     let a = c.args in
     let row = Shown.row_of a.row in
     let n = row_of a.numbers.now a.k in
-    sym (count-out row n (omega (arith, c.number-created.ensures, c.if-created-gt1.false)) (omega (arith, c.number.ensures, c.if-number-gt1.false)) (omega (arith, c.number-oldest.ensures, c.if-oldest-ge-RING.false)) (omega (arith, c.number-count.ensures, c.room.ensures, c.if-room-count.true)))
+    sym (count-out row n (omega (arith, c.number-created.ensures)) (omega (arith, c.number.ensures)) (omega (arith, c.number-oldest.ensures)) (omega (arith, c.number-count.ensures, c.room.ensures, c.if-room-count.true)))
 
 pub returns-then-created-ne1 : goal.returns-then-created-ne1
 returns-then-created-ne1 c =
@@ -41,14 +41,14 @@ returns-then-created-ne1 c =
     let row = Shown.row_of a.row in
     let n = row_of a.numbers.now a.k in
     ap (λ x. eqb x 0) c.number-count.ensures ∙ sym
-    (uncreated row n (omega (arith, c.number-created.ensures, c.if-created-gt1.false)) (omega (arith, c.number.ensures, c.if-number-gt1.false)) (omega (arith, c.number-oldest.ensures, c.if-oldest-ge-RING.false)) (omega (arith, c.number-count.ensures, c.room.ensures, c.if-room-count.false)) (λ q. c.if-created-ne1.true (c.number-created.ensures ∙ q)))
+    (uncreated row n (omega (arith, c.number-created.ensures)) (omega (arith, c.number.ensures)) (omega (arith, c.number-oldest.ensures)) (omega (arith, c.number-count.ensures, c.room.ensures, c.if-room-count.false)) (λ q. c.if-created-ne1.true (c.number-created.ensures ∙ q)))
 
 pub returns : goal.returns
 returns c =
     let a = c.args in
     let row = Shown.row_of a.row in
     let n = row_of a.numbers.now a.k in
-    created row n (omega (arith, c.number-created.ensures, c.if-created-gt1.false)) (omega (arith, c.number.ensures, c.if-number-gt1.false))
-    (omega (arith, c.number-oldest.ensures, c.if-oldest-ge-RING.false))
+    created row n (omega (arith, c.number-created.ensures)) (omega (arith, c.number.ensures))
+    (omega (arith, c.number-oldest.ensures))
     (omega (arith, c.number-count.ensures, c.room.ensures, c.if-room-count.false))
     (sym c.number-created.ensures ∙ c.if-created-ne1.false) c.number-oldest.ensures c.number-count.ensures c.lengths_fit.ensures

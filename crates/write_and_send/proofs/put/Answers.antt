@@ -1,6 +1,6 @@
 -- `write_and_send::put` meets its contract: the tests in their order, then the letter is stored. Assumes nothing.
 use Prim.Native.Nat.{◌≤◌}
-use mathlib.Core.Path.{sym, ◌∙◌, ap}
+use mathlib.Core.Path.{◌≡◌, sym, ◌∙◌, ap}
 use native.Mathlib.Omega.{arith}
 use Rattle.model.specs.State.{with_queue}
 use Rattle.model.specs.Services.{stored}
@@ -22,12 +22,15 @@ returns-then-f-eq0 c =
 pub returns-then-row-f : goal.returns-then-row-f
 returns-then-row-f c =
     let a = c.args in
-    rw (put-long (row_of a.row) _ (call_of a.f) _ c.if-f-eq0.false c.if-row-f.true) (kept c.refusal-then-row-f.ensures)
+    let some : a.f.size ≡ 0 → ⊥ = assumption in
+    rw (put-long (row_of a.row) _ (call_of a.f) _ some c.if-row-f.true) (kept c.refusal-then-row-f.ensures)
 
 pub returns-then-not-directed : goal.returns-then-not-directed
 returns-then-not-directed c =
     let a = c.args in
-    rw (put_wrong (row_of a.row) _ (call_of a.f) _ c.if-f-eq0.false c.if-row-f.false (sym c.directed.ensures ∙ c.if-not-directed.true)) (kept c.refusal-then-not-directed.ensures)
+    let some : a.f.size ≡ 0 → ⊥ = assumption in
+    let room : a.f.size ≤ a.row.largest = omega arith in
+    rw (put_wrong (row_of a.row) _ (call_of a.f) _ some room (sym c.directed.ensures ∙ c.if-not-directed.true)) (kept c.refusal-then-not-directed.ensures)
 
 pub returns : goal.returns
 returns c =
@@ -36,8 +39,8 @@ returns c =
     let e = a.event.now in
     let f = call_of a.f in
     let q = port_at a.numbers.now a.bytes.now a.k in
-    let some = c.if-f-eq0.false in
-    let room = c.if-row-f.false in
+    let some : a.f.size ≡ 0 → ⊥ = assumption in
+    let room : a.f.size ≤ a.row.largest = omega arith in
     let source = sym c.directed.ensures ∙ c.if-not-directed.false in
     let letter = c.letter_of-l.ensures in
     let long : a.f.size ≤ 64 = omega (arith, room, c.requires.fits.ranges.few_bytes) in
