@@ -50,6 +50,7 @@ pub fn mueanphrai_refused_record(tables: &[u8]) -> usize
 }
 
 // Test 29 as 1 or 0.
+#[tactic(auto, using(crate::proofs::Calls::buffer_tests))]
 pub fn mueanphrai_in_range(tables: &[u8], state: &[u8]) -> u8
     ensures { HostTest tables.now state.now result }
 {
