@@ -9,7 +9,7 @@ use native.Mathlib.Omega.{arith}
 use Rattle.std.proofs.lemmas.Bool.Decides.{nat_tests}
 use lib.Dec.{ltb}
 use lib.ListN.{length}
-use borrow.Author.Tests.{eq-eqb, ne_eqb}
+use borrow.Author.Tests.{ne_eqb}
 use Rattle.model.specs.Load.{accepted, refused, load_of, accepts}
 use Rattle.model.specs.Run.{list_fault}
 use Rattle.model.proofs.Tests.{by-test}
@@ -48,13 +48,6 @@ module _ (t b : List ℕ) where
   unfolding buffer_sound
   sound-as s = rw s
 
-  -- the same by the length, for a search
-  pub unsized_buffer : (length b ≡ 36120 → ⊥) → buffer_sound t b ≡ false
-  unsized_buffer s = unsound (ne_eqb (length b) 36120 s)
-
-  pub sized_buffer : length b ≡ 36120 → buffer_sound t b ≡ is_sound t (state_of b)
-  sized_buffer s = sound-as (eq-eqb (length b) 36120 s)
-
   -- a call on a list whose buffer has another size is refused and changes nothing
   module _ (whole : Bool) (events a : List ℕ) where
     fault-not-0 : list_fault whole events a false ≡ 0 → ⊥
@@ -83,4 +76,5 @@ module _ (t b : List ℕ) where
           answered = m.answered;
         })
 
-pub ruleset buffer_tests = (nat_tests, sized_buffer, unsized_buffer)
+-- what a search of the buffer's test takes
+pub ruleset buffer_tests = (nat_tests, sound-as, unsound)

@@ -37,22 +37,14 @@ returns c =
     (subst (λ p. Laws.At t st e p (service t k.time st p e f)) (sym o) (Laws.at_call t st e f c.requires.event_len.1 (λ z. c.if-owner-eq-MOVER.false (o ∙ z))))
     (c.service.ensures (clock_of k))
 
-pub service-requires-clause-asked : goal.service-requires-clause-asked
-service-requires-clause-asked c =
+pub service-requires : goal.service-requires
+service-requires c =
     let t = c.args.t.now in
-    let e = c.args.event.now in
     let k = c.args.clock in
     let h = c.requires.ready in
-    let a = accepted t h.held.accepted in
-    let few = Laws.owner-few t a k.window h.ranged.in_window (λ z. c.if-owner-eq-MOVER.false (c.window_partition-owner.ensures ∙ z)) in
-    record { whole = c.requires.event_len.0; coded = Laws.decoded-known e (call_of c.args.f) c.requires.event_len.1 }
-
-pub service-requires-clause-p_in_bounds : goal.service-requires-clause-p_in_bounds
-service-requires-clause-p_in_bounds c =
-    let t = c.args.t.now in
-    let e = c.args.event.now in
-    let k = c.args.clock in
-    let h = c.requires.ready in
-    let a = accepted t h.held.accepted in
-    let few = Laws.owner-few t a k.window h.ranged.in_window (λ z. c.if-owner-eq-MOVER.false (c.window_partition-owner.ensures ∙ z)) in
-    omega (arith, few, c.window_partition-owner.ensures, h.ranged.sixteen)
+    let few = Laws.owner-few t (accepted t h.held.accepted) k.window h.ranged.in_window (λ z. c.if-owner-eq-MOVER.false (c.window_partition-owner.ensures ∙ z)) in
+    record {
+      held = h.held;
+      asked = record { whole = c.requires.event_len.0; coded = Laws.decoded-known c.args.event.now (call_of c.args.f) c.requires.event_len.1 };
+      p_in_bounds = omega (arith, few, c.window_partition-owner.ensures, h.ranged.sixteen);
+    }

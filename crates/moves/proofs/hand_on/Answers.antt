@@ -25,23 +25,16 @@ returns c =
     handed c.requires.held a.c c.requires.c_lt_channels.0 a.j c.requires.c_lt_channels.1 a.time (written (lettered a.letter.now a.size))
     c.destination_port-k.ensures c.port_row-row.ensures c.arrive.ensures
 
-pub destination_port-k-requires-clause-first_channel_value : goal.destination_port-k-requires-clause-first_channel_value
-destination_port-k-requires-clause-first_channel_value c =
+pub destination_port-k-requires : goal.destination_port-k-requires
+destination_port-k-requires c =
     let a = c.args in
     let held = c.requires.held in
-    let there = c.requires.c_lt_channels.0 in first-channel held a.c there
-
-pub destination_port-k-requires-clause-c_bound : goal.destination_port-k-requires-clause-c_bound
-destination_port-k-requires-clause-c_bound c =
-    let a = c.args in
-    let held = c.requires.held in
-    let there = c.requires.c_lt_channels.0 in its-record held a.c there
-
-pub destination_port-k-requires-clause-j_bound : goal.destination_port-k-requires-clause-j_bound
-destination_port-k-requires-clause-j_bound c =
-    let a = c.args in
-    let held = c.requires.held in
-    let there = c.requires.c_lt_channels.0 in omega (arith, c.requires.c_lt_channels.1, few-destinations held a.c there)
+    let there = c.requires.c_lt_channels.0 in
+    record {
+      first_channel_value = first-channel held a.c there;
+      c_bound = its-record held a.c there;
+      j_bound = omega (arith, c.requires.c_lt_channels.1, few-destinations held a.c there);
+    }
 
 pub arrive-requires-clause-fits : goal.arrive-requires-clause-fits
 arrive-requires-clause-fits c = let a = c.args in destination-fits c.requires.held a.c c.requires.c_lt_channels.0 a.j c.requires.c_lt_channels.1 c.destination_port-k.ensures c.port_row-row.ensures

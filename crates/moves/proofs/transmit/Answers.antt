@@ -44,32 +44,22 @@ source_port-k-requires-clause-c_bound c =
     let a = c.args in
     its-record c.requires.held a.c c.requires.c_lt_channels
 
-pub take_oldest-l-requires-clause-lent : goal.take_oldest-l-requires-clause-lent
-take_oldest-l-requires-clause-lent c =
+pub take_oldest-l-requires : goal.take_oldest-l-requires
+take_oldest-l-requires c =
     let found = c.source_port-k.ensures in
-    let counted = c.waiting.ensures in
-    let some = c.if-waiting-eq0.false in
-    (source-lent c.requires.held c.args.c c.requires.c_lt_channels found, source-sized c.requires.held c.args.c c.requires.c_lt_channels found)
+    record {
+      lent = (source-lent c.requires.held c.args.c c.requires.c_lt_channels found, source-sized c.requires.held c.args.c c.requires.c_lt_channels found);
+      fact = source-some c.requires.held c.args.c c.requires.c_lt_channels found c.waiting.ensures c.if-waiting-eq0.false;
+    }
 
-pub take_oldest-l-requires-clause-fact : goal.take_oldest-l-requires-clause-fact
-take_oldest-l-requires-clause-fact c =
-    let found = c.source_port-k.ensures in
-    let counted = c.waiting.ensures in
-    let some = c.if-waiting-eq0.false in
-    source-some c.requires.held c.args.c c.requires.c_lt_channels found counted some
-
-pub deliver-requires-clause-held : goal.deliver-requires-clause-held
-deliver-requires-clause-held c =
+pub deliver-requires : goal.deliver-requires
+deliver-requires c =
     let found = c.source_port-k.ensures in
     let counted = c.waiting.ensures in
     let some = c.if-waiting-eq0.false in
     let gone = c.take_oldest-l.ensures in
-    source-held c.requires.held c.args.c c.requires.c_lt_channels found counted some gone c.take_oldest-l.auto.numbers
-
-pub deliver-requires-clause-carried : goal.deliver-requires-clause-carried
-deliver-requires-clause-carried c =
-    let found = c.source_port-k.ensures in
-    let counted = c.waiting.ensures in
-    let some = c.if-waiting-eq0.false in
-    let gone = c.take_oldest-l.ensures in
-    source-carried c.requires.held c.args.c c.requires.c_lt_channels found counted some gone
+    record {
+      held = source-held c.requires.held c.args.c c.requires.c_lt_channels found counted some gone c.take_oldest-l.auto.numbers;
+      c_lt_channels = c.requires.c_lt_channels;
+      carried = source-carried c.requires.held c.args.c c.requires.c_lt_channels found counted some gone;
+    }

@@ -45,14 +45,12 @@ returns c =
     rw (read_some r.refresh a.time q found.0 found.1 found.2)
     (c.told_message.ensures found.0 l ∙ ap (λ x. told_as a.doer (told_message found.0 x)) v, put-validity n b a.k (mark (valid r.refresh a.time q.arrival)) (row_is c.set_number.ensures (ap (λ x. set (Held.row_of n a.k) 1 x) v)))
 
-pub oldest-l-requires-clause-count_nonzero : goal.oldest-l-requires-clause-count_nonzero
-oldest-l-requires-clause-count_nonzero c =
+pub oldest-l-requires : goal.oldest-l-requires
+oldest-l-requires c =
     let a = c.args in
     let some = some-count a.numbers.now a.bytes.now a.k (some-held a.numbers.now a.bytes.now a.k c.number.ensures c.if-number-eq0.false) in
-    subst (λ (st : Store). 0 < st.count) (sym c.take_store.ensures) some
-
-pub oldest-l-requires-clause-st_bound : goal.oldest-l-requires-clause-st_bound
-oldest-l-requires-clause-st_bound c =
-    let a = c.args in
-    let some = some-count a.numbers.now a.bytes.now a.k (some-held a.numbers.now a.bytes.now a.k c.number.ensures c.if-number-eq0.false) in
-    subst (λ (st : Store). get_or st.lengths (slot_of st 0) 0 ≤ 64) (sym c.take_store.ensures) ((sized_of a.numbers.now a.bytes.now a.k a.row c.requires).short 0 some)
+    let taken = sym c.take_store.ensures in
+    record {
+      count_nonzero = subst (λ (st : Store). 0 < st.count) taken some;
+      st_bound = subst (λ (st : Store). get_or st.lengths (slot_of st 0) 0 ≤ 64) taken ((sized_of a.numbers.now a.bytes.now a.k a.row c.requires).short 0 some);
+    }

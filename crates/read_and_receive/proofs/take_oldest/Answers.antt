@@ -38,14 +38,12 @@ returns c =
           (ap (with_queue q) (rest-is st some m rest held)),
     )
 
-pub oldest-requires-clause-count_nonzero : goal.oldest-requires-clause-count_nonzero
-oldest-requires-clause-count_nonzero c =
+pub oldest-requires : goal.oldest-requires
+oldest-requires c =
     let a = c.args in
     let some = some-count a.numbers.now a.bytes.now a.k c.requires.fact in
-    subst (λ (st : Store). 0 < st.count) (sym c.take_store-st.ensures) some
-
-pub oldest-requires-clause-st_bound : goal.oldest-requires-clause-st_bound
-oldest-requires-clause-st_bound c =
-    let a = c.args in
-    let some = some-count a.numbers.now a.bytes.now a.k c.requires.fact in
-    subst (λ (st : Store). get_or st.lengths (slot_of st 0) 0 ≤ 64) (sym c.take_store-st.ensures) (c.requires.lent.1.short 0 some)
+    let taken = sym c.take_store-st.ensures in
+    record {
+      count_nonzero = subst (λ (st : Store). 0 < st.count) taken some;
+      st_bound = subst (λ (st : Store). get_or st.lengths (slot_of st 0) 0 ≤ 64) taken (c.requires.lent.1.short 0 some);
+    }

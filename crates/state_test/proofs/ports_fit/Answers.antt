@@ -59,8 +59,8 @@ loop-k-preserved c =
     (λ r. numbers_fit r (row_of c.args.numbers.now l.k)) shows in
     (omega arith, l.invariant.1 ∙ all_more (port_fits t c.args.numbers.now) (ports t) l.k inside (sym judged ∙ c.if-not-port_fits.false))
 
-pub port_fits-requires-clause-numbers_len : goal.port_fits-requires-clause-numbers_len
-port_fits-requires-clause-numbers_len c =
+pub port_fits-requires : goal.port_fits-requires
+port_fits-requires c =
     let l = c.loop-k in
     let t = c.args.t.now in
     let laid = c.requires.t_value.1 in
@@ -68,15 +68,4 @@ port_fits-requires-clause-numbers_len c =
     let inside : l.k < ports t = omega (arith, laid.ported, c.loop-k-test.true) in
     let shows : Shown.row_of c.port_row-row.result ≡ row t l.k = row_read t a l.k inside
     (c.port_row-row.ensures ∙ ap (λ w. Shown.decoded (row_at t (w + l.k))) laid.windowed) in
-    (c.requires.numbers_len, omega (arith, a.few_ports))
-
-pub port_fits-requires-clause-row_ranges : goal.port_fits-requires-clause-row_ranges
-port_fits-requires-clause-row_ranges c =
-    let l = c.loop-k in
-    let t = c.args.t.now in
-    let laid = c.requires.t_value.1 in
-    let a = accepted t c.requires.t_value.0 in
-    let inside : l.k < ports t = omega (arith, laid.ported, c.loop-k-test.true) in
-    let shows : Shown.row_of c.port_row-row.result ≡ row t l.k = row_read t a l.k inside
-    (c.port_row-row.ensures ∙ ap (λ w. Shown.decoded (row_at t (w + l.k))) laid.windowed) in
-    subst RowRanges (sym shows) (a.rows l.k inside)
+    record { numbers_len = (c.requires.numbers_len, omega (arith, a.few_ports)); row_ranges = subst RowRanges (sym shows) (a.rows l.k inside) }
