@@ -58,8 +58,13 @@ def against(words):
 
 def declaration_at(crate, file, ending, line):
     """The function, or the declaration at the left edge, in which a line stands."""
-    text = (ROOT / "crates" / crate / f"{file}.{ending}").read_text().split("\n")[: int(line)]
-    head = r"\s*(?:pub )?(?:extern \"C\" )?fn (\w+)" if ending == "rt" else r"(?:(?:pub|abbrev|unfoldable) )*(?:record |data )?([^\s(){}:]+) .*:"
+    text = (ROOT / "crates" / crate / f"{file}.{ending}").read_text().split("\n")
+    at = int(line)
+    # a function is reported where its attributes begin
+    while ending == "rt" and at < len(text) and text[at - 1].lstrip().startswith("#["):
+        at += 1
+    text = text[:at]
+    head = r"\s*(?:pub(?:\(crate\))? )?(?:extern \"C\" )?fn (\w+)" if ending == "rt" else r"(?:(?:pub|abbrev|unfoldable) )*(?:record |data )?([^\s(){}:]+) .*:"
     return next((found[1] for found in (re.match(head, it) for it in reversed(text)) if found), None)
 
 

@@ -1,3 +1,2 @@
 pub mod ChannelEnds
 pub mod Searched
-pub mod Taking

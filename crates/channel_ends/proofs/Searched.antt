@@ -1,4 +1,4 @@
--- The tests that the loader's searches carry out, by name, and each search as its loop begins it: up to an end, from where it stands.
+-- The tests that the searches carry out, by name.
 -- Assumes nothing.
 use Prim.Native.Nat.{ℕ, suc, ◌-◌}
 use mathlib.Core.Path.{◌≡◌}

@@ -1,3 +1,2 @@
--- What the contracts of refusal 25 cite besides the model: pieces of its tests, and what a test may take as known.
-pub mod Known
+-- What the contracts of refusal 25 cite besides the model: pieces of its tests. Definitions alone: nothing is assumed.
 pub mod Pieces

@@ -2,117 +2,61 @@
 // 23 refuses may be up to 255, so that an end stands past the table. The rows are read as they stand.
 #![tactic(auto)]
 
-ghost use Rattle.std.specs.Prelude.{◌+◌, ◌-◌, ◌≤◌, ◌<◌, ◌≡◌, true, ◌||◌, not, eqb};
-ghost use Rattle.model.specs.Words.{between};
-ghost use Rattle.model.specs.Tables.{records, ports_end, queuing, row_at, end_at};
+ghost use Rattle.std.specs.Prelude.{◌≤◌, ◌<◌, ◌≡◌, ◌||◌, not, eqb, IfNone, IfSome, None};
+ghost use Rattle.model.specs.Tables.{queuing, row_at, end_at};
 ghost use Rattle.model.specs.Load.{ends, end_fits, named_among, named_before, channel_ends_fit, end_fault};
-ghost use Rattle.channel_ends.specs.Pieces.{takes_from, destinations_fit, named_in_earlier, named_again};
-ghost use Rattle.channel_ends.specs.Known.{Placed, SourceRecord};
+ghost use Rattle.channel_ends.specs.Pieces.{record_of, IsRow, takes_from, destinations_fit, named_in_earlier, named_again};
 
-use tables::{
-    COUNT_AT, DESTINATION, ENDS_AT, PORT_KIND, QUEUING, RECORD_SIZE, SOURCE, WINDOW_KIND, kind,
-    row_direction, row_largest, row_mode, word16_at,
-};
-
-// The id at end j of the channel in record r, 0 past the end of the table.
-fn end_at(t: &[u8], r: usize, j: usize) -> usize
-    requires { (r < records t.now) × (j < 256) }
-    ensures { result ≡ end_at t.now r j }
-{
-    word16_at(t, RECORD_SIZE * r + ENDS_AT + 2 * j) as usize
-}
+use tables::{DESTINATION, QUEUING, Record, RecordKind, SOURCE, Tables};
 
 // How many ends a channel has: its source and its destinations.
-fn end_count(t: &[u8], r: usize) -> usize
-    requires { r < records t.now }
-    ensures { result ≡ ends t.now r }
+fn end_count(channel: Record) -> usize
+    ensures count { result ≡ ends channel.entry.tables.bytes.now channel.entry.number }
+    ensures most { result ≤ 256 }
 {
-    t[RECORD_SIZE * r + COUNT_AT] as usize + 1
+    usize::from(channel.count()) + 1
 }
 
-// An id has a row.
-fn is_port(id: usize, ports: usize) -> bool
-    ensures { result ≡ between 1 ports id }
+// The row that an id has, where it stands: ids are counted from 1.
+fn row_of(tables: Tables, id: usize) -> Option<Record>
+    ensures some { IfSome result (λ q. IsRow tables.entry.bytes.now id q.tables.bytes.now q.number) }
+    ensures none { IfNone result (record_of tables.entry.bytes.now id ≡ None) }
 {
-    1 <= id && id <= ports
-}
-
-// The record of an id that has a row.
-fn id_record(first_port: usize, first_channel: usize, id: usize) -> usize
-    requires { between 1 (first_channel - first_port) id ≡ true }
-    ensures { result ≡ first_port + (id - 1) }
-{
-    first_port + (id - 1)
-}
-
-// End 0: an id with a row, of a source.
-fn source_fits(t: &[u8], first_port: usize, first_channel: usize, r: usize) -> bool
-    requires { Placed t.now first_port first_channel r }
-    ensures { result ≡ end_fits t.now r 0 }
-{
-    let id = end_at(t, r, 0);
-    if !is_port(id, first_channel - first_port) {
-        return false;
+    if 1 <= id && id <= tables.ports {
+        Some(tables.port(id - 1))
+    } else {
+        None
     }
-    row_direction(t, id_record(first_port, first_channel, id)) == SOURCE
 }
 
-// The row in record q is that of a destination, of its source's mode, for messages as large as the source's.
-fn takes_from(t: &[u8], q: usize, source: usize) -> bool
-    requires q_bound { q < records t.now }
-    requires source_bound { source < records t.now }
-    ensures { result ≡ takes_from (row_at t.now q) (row_at t.now source) }
+// The row is that of a destination, of its source's mode, for messages as large as the source's.
+#[tactic(auto, unfolding(crate::specs::Pieces::takes_from))]
+fn takes_from(row: Record, source: Record) -> bool
+    ensures { result
+        ≡ takes_from (row_at row.entry.tables.bytes.now row.entry.number) (row_at source.entry.tables.bytes.now source.entry.number) }
 {
-    if row_direction(t, q) != DESTINATION {
-        return false;
-    }
-    if row_mode(t, q) != row_mode(t, source) {
-        return false;
-    }
-    row_largest(t, source) <= row_largest(t, q)
+    row.direction() == DESTINATION
+        && row.mode() == source.mode()
+        && source.largest() <= row.largest()
 }
 
-// End j, a destination: an id with a row, which takes from the row of the source, in record source.
-fn destination_fits(
-    t: &[u8],
-    first_port: usize,
-    first_channel: usize,
-    r: usize,
-    source: usize,
-    j: usize,
-) -> bool
-    requires placed { Placed t.now first_port first_channel r }
-    requires source_record { SourceRecord t.now r source }
+// End j, a destination: an id with a row, which takes from the source's.
+fn destination_fits(channel: Record, source: Record, j: usize) -> bool
+    requires source_row { IsRow channel.tables.bytes.now (end_at channel.tables.bytes.now channel.number 0) source.tables.bytes.now source.number }
     requires j_nonzero { (0 < j) × (j < 256) }
-    ensures { result ≡ end_fits t.now r j }
+    ensures { result ≡ end_fits channel.entry.tables.bytes.now channel.entry.number j }
 {
-    let id = end_at(t, r, j);
-    if !is_port(id, first_channel - first_port) {
-        return false;
+    match row_of(channel.tables, channel.id(j)) {
+        Some(row) => takes_from(row, source),
+        None => false,
     }
-    takes_from(t, id_record(first_port, first_channel, id), source)
 }
 
-fn destinations_fit(
-    t: &[u8],
-    first_port: usize,
-    first_channel: usize,
-    r: usize,
-    source: usize,
-) -> bool
-    requires placed { Placed t.now first_port first_channel r }
-    requires source_record { SourceRecord t.now r source }
-    ensures { result ≡ destinations_fit t.now r }
+fn destinations_fit(channel: Record, source: Record) -> bool
+    requires { IsRow channel.tables.bytes.now (end_at channel.tables.bytes.now channel.number 0) source.tables.bytes.now source.number }
+    ensures { result ≡ destinations_fit channel.entry.tables.bytes.now channel.entry.number }
 {
-    let end = end_count(t, r);
-    let mut j = 1;
-    while j < end {
-        if !destination_fits(t, first_port, first_channel, r, source, j) {
-            return false;
-        }
-        j += 1;
-    }
-    true
+    (1..end_count(channel)).all(|j| destination_fits(channel, source, j))
 }
 
 // A queuing channel has one destination.
@@ -122,91 +66,59 @@ fn count_fits(mode: u8, count: u8) -> bool
     mode != QUEUING || count == 1
 }
 
-// One of the first n ends of the channel in record q is the id.
-fn named_among(t: &[u8], id: usize, n: usize, q: usize) -> bool
-    requires { (q < records t.now) × (n ≤ 256) }
-    ensures { result ≡ named_among t.now id n q }
+// One of the first n ends of the channel is the id.
+fn named_among(channel: Record, id: usize, n: usize) -> bool
+    requires { n ≤ 256 }
+    ensures { result ≡ named_among channel.entry.tables.bytes.now id n channel.entry.number }
 {
-    let mut i = 0;
-    while i < n {
-        if end_at(t, q, i) == id {
-            return true;
-        }
-        i += 1;
-    }
-    false
+    (0..n).any(|i| channel.id(i) == id)
 }
 
-// A channel before record r names the id.
-fn named_in_earlier(t: &[u8], first_channel: usize, id: usize, r: usize) -> bool
-    requires first_channel_value { first_channel ≡ ports_end t.now }
-    requires r_bound { r < records t.now }
-    ensures { result ≡ named_in_earlier t.now id r }
+// A channel before this one names the id.
+fn named_in_earlier(channel: Record, id: usize) -> bool
+    ensures { result ≡ named_in_earlier channel.entry.tables.bytes.now id channel.entry.number }
 {
-    let mut q = first_channel;
-    while q < r {
-        if named_among(t, id, end_count(t, q), q) {
-            return true;
-        }
-        q += 1;
-    }
-    false
+    (channel.tables.first_channel()..channel.number).any(|q| {
+        let earlier = channel.tables.record(q);
+        named_among(earlier, id, end_count(earlier))
+    })
 }
 
 // The port of end j is named before it, here or in an earlier channel.
-fn named_before(t: &[u8], first_channel: usize, r: usize, j: usize) -> bool
-    requires first_channel_value { first_channel ≡ ports_end t.now }
-    requires r_bound { (r < records t.now) × (j < 256) }
-    ensures { result ≡ named_before t.now r j }
+#[tactic(auto, unfolding(model::specs::Load::named_before))]
+fn named_before(channel: Record, j: usize) -> bool
+    requires { j < 256 }
+    ensures { result ≡ named_before channel.entry.tables.bytes.now channel.entry.number j }
 {
-    let id = end_at(t, r, j);
-    named_among(t, id, j, r) || named_in_earlier(t, first_channel, id, r)
+    let id = channel.id(j);
+    named_among(channel, id, j) || named_in_earlier(channel, id)
 }
 
 // A port that the channel names is named twice.
-fn named_again(t: &[u8], first_channel: usize, r: usize) -> bool
-    requires first_channel_value { first_channel ≡ ports_end t.now }
-    requires r_bound { r < records t.now }
-    ensures { result ≡ named_again t.now r }
+fn named_again(channel: Record) -> bool
+    ensures { result ≡ named_again channel.entry.tables.bytes.now channel.entry.number }
 {
-    let end = end_count(t, r);
-    let mut j = 0;
-    while j < end {
-        if named_before(t, first_channel, r, j) {
-            return true;
-        }
-        j += 1;
-    }
-    false
+    (0..end_count(channel)).any(|j| named_before(channel, j))
 }
 
-fn channel_ends_fit(t: &[u8], first_port: usize, first_channel: usize, r: usize) -> bool
-    requires { Placed t.now first_port first_channel r }
-    ensures { result ≡ channel_ends_fit t.now r }
+fn channel_ends_fit(channel: Record) -> bool
+    ensures { result ≡ channel_ends_fit channel.entry.tables.bytes.now channel.entry.number }
 {
-    if !source_fits(t, first_port, first_channel, r) {
+    let Some(source) = row_of(channel.tables, channel.id(0)) else {
         return false;
-    }
-    let source = id_record(first_port, first_channel, end_at(t, r, 0));
-    if !destinations_fit(t, first_port, first_channel, r, source) {
-        return false;
-    }
-    if !count_fits(row_mode(t, source), t[RECORD_SIZE * r + COUNT_AT]) {
-        return false;
-    }
-    !named_again(t, first_channel, r)
+    };
+    source.direction() == SOURCE
+        && destinations_fit(channel, source)
+        && count_fits(source.mode(), channel.count())
+        && !named_again(channel)
 }
 
-pub fn end_fault(t: &[u8], first_port: usize, first_channel: usize, r: usize) -> bool
-    requires { Placed t.now first_port first_channel r }
-    ensures { result ≡ end_fault t.now r }
+#[tactic(auto, unfolding(model::specs::Load::end_fault))]
+pub fn end_fault(record: Record) -> bool
+    ensures { result ≡ end_fault «record».entry.tables.bytes.now «record».entry.number }
 {
-    let k = kind(t, r);
-    if k == WINDOW_KIND {
-        return false;
+    match record.counts_as() {
+        RecordKind::Channel => !channel_ends_fit(record),
+        RecordKind::Window | RecordKind::Port => false,
     }
-    if k == PORT_KIND {
-        return false;
-    }
-    !channel_ends_fit(t, first_port, first_channel, r)
 }

@@ -1,4 +1,4 @@
--- Create: the row's number, and the test of likeness.
+-- Create: the row's number, and what each test of likeness decides alone.
 -- Assumes nothing.
 use Prim.Native.Nat.{ℕ}
 use mathlib.Core.Path.{◌≡◌}

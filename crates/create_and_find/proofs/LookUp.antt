@@ -1,45 +1,40 @@
--- The name look-up, from the tests of one row to the search over all.
+-- The name look-up: a row of another mode, and the search over all.
 -- Assumes nothing.
-use Prim.Native.Nat.{ℕ, ◌+◌, ◌-◌, ◌*◌, ◌≤◌, ◌<◌}
+use Rattle.std.specs.Prelude.{MatchOption, Option, Some, None}
+use Prim.Native.Nat.{ℕ, zero, suc, ◌+◌, ◌≤◌, ◌<◌}
 use mathlib.Core.Path.{◌≡◌, sym, ◌∙◌, ap}
 use mathlib.Core.Bool.{Bool, true, false}
+use mathlib.Core.Logic.{⊎_elim}
+use native.Mathlib.Nat.{eq-or-lt_of_le, add-zero, zero-add}
 use native.Mathlib.Omega.{arith}
 use lib.Dec.{eqb}
-use borrow.Author.Tests.{eq-eqb, ne_eqb}
+use borrow.Author.Tests.{eq-eqb}
 use Rattle.model.specs.Words.{first}
-use Rattle.model.specs.Tables.{Tables, windows, ports, row, same_name}
+use Rattle.model.specs.Tables.{Tables, row}
 use Rattle.model.specs.Events.{Event}
-use Rattle.model.specs.Services.{is_named, look_up}
-use Rattle.model.proofs.Searches.{first_more, first-stop, first-end}
+use Rattle.model.specs.Services.{is_named}
 
--- the tests of one row, in their order
-module _ (t : Tables) (p mode : ℕ) (e : Event) (k : ℕ) where
-  pub not-owner : ((row t k).owner ≡ p → ⊥) → is_named t p mode e k ≡ false
-  unfolding is_named
-  not-owner h = rw (ne_eqb (row t k).owner p h)
+-- the caller's row, but of another mode
+pub not-mode : (t : Tables) (p mode : ℕ) (e : Event) (k : ℕ) → (row t k).owner ≡ p → eqb (row t k).mode mode ≡ false → is_named t p mode e k ≡ false
+unfolding is_named
+not-mode t p mode e k o h = rw (eq-eqb (row t k).owner p o, h)
 
-  pub not-mode : (row t k).owner ≡ p → eqb (row t k).mode mode ≡ false → is_named t p mode e k ≡ false
-  unfolding is_named
-  not-mode o h = rw (eq-eqb (row t k).owner p o, h)
+-- the first number that passes, where all before it fail; and where none passes
+first-at : (p : ℕ → Bool) (n k i : ℕ) → k ≤ i → i < k + n → p i ≡ true → ((j : ℕ) → k ≤ j → j < i → p j ≡ false) → first p n k ≡ i
+first-at p zero k i l h here before = absurd (omega arith)
+first-at p (suc n) k i l h here before =
+    ⊎_elim
+    (λ (e : k ≡ i). rw (ap p e ∙ here) e)
+    (λ (q : k < i). rw (before k (omega arith) q) (first-at p n (suc k) i (omega arith) (omega arith) here (λ j a b. before j (omega arith) b)))
+    (eq-or-lt_of_le l)
 
-  pub by_name : (row t k).owner ≡ p → eqb (row t k).mode mode ≡ true → is_named t p mode e k ≡ same_name t (48 * (windows t + k) + 16) e 16
-  unfolding is_named
-  by_name o m = rw (eq-eqb (row t k).owner p o, m)
+first-none : (p : ℕ → Bool) (n k : ℕ) → ((j : ℕ) → k ≤ j → j < k + n → p j ≡ false) → first p n k ≡ k + n
+first-none p zero k all = sym (add-zero k)
+first-none p (suc n) k all = rw (all k (omega arith) (omega arith)) (first-none p n (suc k) (λ j a b. all j (omega arith) (omega arith)) ∙ omega arith)
 
--- the search, where it begins
-pub whole : (t : Tables) (p mode : ℕ) (e : Event) → look_up t p mode e ≡ first (is_named t p mode e) (ports t - 0) 0
-unfolding look_up
-whole t p mode e =
-    let all : ports t ≡ ports t - 0 = omega arith in
-    ap (λ n. first (is_named t p mode e) n 0) all
-
--- where it stands at row k, and x is what the tests of that row gave
-module _ (t : Tables) (p mode : ℕ) (e : Event) (k : ℕ) (rest : look_up t p mode e ≡ first (is_named t p mode e) (ports t - k) k) where
-  pub found : {x : Bool} → k < ports t → x ≡ is_named t p mode e k → x ≡ true → k ≡ look_up t p mode e
-  found l tested is = sym (rest ∙ first-stop (is_named t p mode e) (ports t) k l (sym tested ∙ is))
-
-  pub passed : {x : Bool} → k < ports t → x ≡ is_named t p mode e k → x ≡ false → look_up t p mode e ≡ first (is_named t p mode e) (ports t - (k + 1)) (k + 1)
-  passed l tested other = rest ∙ first_more (is_named t p mode e) (ports t) k l (sym tested ∙ other)
-
-  pub none : ports t ≤ k → k ≡ look_up t p mode e
-  none past = sym (rest ∙ first-end (is_named t p mode e) (ports t) k past)
+-- what a search of the numbers below n found is the model's first
+pub found : (p : ℕ → Bool) (n : ℕ) (r : Option ℕ)
+    → MatchOption r ((k : ℕ) → 0 ≤ k → k < n → p k ≡ false) (λ i. (0 ≤ i) × (i < n) × (p i ≡ true) × ((k : ℕ) → 0 ≤ k → k < i → p k ≡ false))
+    → MatchOption r (first p n 0 ≡ n) (λ i. (i < n) × (i ≡ first p n 0))
+found p n None h = first-none p n 0 (λ j a b. h j a (omega arith)) ∙ zero-add n
+found p n (Some i) h = (h.1, sym (first-at p n 0 i (omega arith) (omega (arith, h.1)) h.2 h.3))

@@ -7,113 +7,77 @@ ghost use Rattle.tables.specs.Shown.{row_of};
 ghost use Rattle.events.specs.Shown.{call_of};
 ghost use Rattle.ports.specs.Held.{port_at};
 ghost use Rattle.service_contracts.specs.Did.{Held};
-ghost use Rattle.service_contracts.specs.Served.{Lent, Serves};
-ghost use Rattle.service_contracts.specs.Called.{Asked, Calls};
+ghost use Rattle.service_contracts.specs.Served.{Serves};
+ghost use Rattle.service_contracts.specs.Called.{Calls};
 ghost use Rattle.create_and_find.specs.Period.{period_of};
 
 mod names;
 
-use events::{Answer, Fields};
+use events::{Answer, Call, NORMAL, Refusal};
 use names::look_up;
-use service_contracts::Layout;
-use tables::{PortRow, Transfer};
+use ports::{CREATED, Ports};
+use tables::{PortRow, Tables, Transfer};
 
 // Refresh period or depth, by the row's mode.
 fn period(row: PortRow) -> u32
     ensures { result ≡ period_of (row_of row) }
 {
-    let transfer = row.transfer;
-    match transfer {
+    match row.transfer {
         Transfer::Sampling(refresh) => refresh,
         Transfer::Queuing(depth) => depth,
     }
 }
 
 // Largest message, direction, and refresh or depth are the row's.
-fn like_row(row: PortRow, f: Fields) -> bool
-    ensures { result ≡ like_row (row_of row) (call_of f) }
+#[tactic(auto, unfolding(model::specs::Services::like_row))]
+fn like_row(row: PortRow, call: Call) -> bool
+    ensures { result ≡ like_row (row_of row) (call_of call.entry) }
 {
-    if f.size != row.largest {
-        return false;
-    }
-    if f.choice != row.direction {
-        return false;
-    }
-    f.number == period(row)
+    call.size == row.largest && call.choice == row.direction && call.number == period(row)
 }
 
 // Already created, 1; unlike the row, 4; partition in NORMAL, 5; else created, answer id.
-fn make(
-    numbers: &mut [u32],
-    bytes: &[u8],
-    k: usize,
-    row: PortRow,
-    mode: u8,
-    f: Fields,
-    doer: u8,
-) -> Answer
-    requires { Lent numbers.old bytes.now k }
-    ensures { Serves numbers.old bytes.now numbers.new bytes.now k doer result (made (k + 1) mode (row_of row) (call_of f) (port_at numbers.old bytes.now k)) }
+fn make(ports: &mut Ports, k: usize, row: PortRow, mode: u8, call: Call, doer: u8) -> Answer
+    requires { k < 64 }
+    ensures served { Serves ports.old.numbers ports.old.bytes ports.new.numbers ports.new.bytes k doer result (made (k + 1) mode (row_of row) (call_of call.entry) (port_at ports.old.numbers ports.old.bytes k)) }
+    ensures kept { ports.new.bytes ≡ ports.old.bytes }
 {
-    if ports::number(numbers, k, ports::CREATED) == 1 {
-        return events::refusal(events::NO_ACTION, doer);
+    if ports.number(k, CREATED) == 1 {
+        return events::refusal(Refusal::NoAction, doer);
     }
-    if !like_row(row, f) {
-        return events::refusal(events::INVALID_CONFIG, doer);
+    if !like_row(row, call) {
+        return events::refusal(Refusal::InvalidConfig, doer);
     }
-    if mode == events::NORMAL {
-        return events::refusal(events::INVALID_MODE, doer);
+    if mode == NORMAL {
+        return events::refusal(Refusal::InvalidMode, doer);
     }
-    ports::set_number(numbers, k, ports::CREATED, 1);
+    ports.set_number(k, CREATED, 1);
     events::told_id(doer, (k + 1) as u32)
 }
 
 // No row of that name, owner and mode, 4.
-pub fn create(
-    t: &[u8],
-    lay: Layout,
-    modes: &[u8],
-    numbers: &mut [u32],
-    bytes: &[u8],
-    p: u8,
-    event: &[u8],
-    f: Fields,
-) -> Answer
-    requires held { Held t.now lay numbers.old bytes.now }
-    requires asked { Asked event.now (call_of f) }
+pub fn create(tables: Tables, modes: &[u8], ports: &mut Ports, p: u8, call: Call) -> Answer
+    requires held { Held tables.bytes.now ports.old.numbers ports.old.bytes }
     requires p_in_bounds { p < length modes.now }
-    ensures { Calls t.now (λ s. create t.now s p event.now (call_of f)) p result modes.now numbers.old bytes.now modes.now numbers.new bytes.now }
+    ensures called { Calls tables.entry.bytes.now (λ s. create tables.entry.bytes.now s p call.entry.event.now (call_of call.entry)) p result modes.now ports.old.numbers ports.old.bytes modes.now ports.new.numbers ports.new.bytes }
+    ensures kept { ports.new.bytes ≡ ports.old.bytes }
 {
-    let needed = events::need(f.code);
-    let k = look_up(t, lay, p, needed.mode, event);
-    if lay.ports <= k {
-        return events::refusal(events::INVALID_CONFIG, p);
-    }
-    let row = tables::port_row(t, lay.windows + k);
-    make(numbers, bytes, k, row, modes[p as usize], f, p)
+    let Some(k) = look_up(tables, p, events::need(call.code).mode, call.event) else {
+        return events::refusal(Refusal::InvalidConfig, p);
+    };
+    make(ports, k, tables.row(k), modes[p as usize], call, p)
 }
 
 // No created own port of that name, 4; else id.
-pub fn get_id(
-    t: &[u8],
-    lay: Layout,
-    numbers: &[u32],
-    bytes: &[u8],
-    p: u8,
-    event: &[u8],
-    f: Fields,
-) -> Answer
-    requires held { Held t.now lay numbers.now bytes.now }
-    requires asked { Asked event.now (call_of f) }
-    ensures { (modes : List ℕ) → Calls t.now (λ s. get_id t.now s p event.now (call_of f)) p result modes numbers.now bytes.now modes numbers.now bytes.now }
+pub fn get_id(tables: Tables, ports: &Ports, p: u8, call: Call) -> Answer
+    requires { Held tables.bytes.now ports.now.numbers ports.now.bytes }
+    ensures { (modes : List ℕ) → Calls tables.entry.bytes.now (λ s. get_id tables.entry.bytes.now s p call.entry.event.now (call_of call.entry)) p result modes ports.now.numbers ports.now.bytes modes ports.now.numbers ports.now.bytes }
 {
-    let needed = events::need(f.code);
-    let k = look_up(t, lay, p, needed.mode, event);
-    if lay.ports <= k {
-        return events::refusal(events::INVALID_CONFIG, p);
-    }
-    if ports::number(numbers, k, ports::CREATED) != 1 {
-        return events::refusal(events::INVALID_CONFIG, p);
+    let Some(k) = look_up(tables, p, events::need(call.code).mode, call.event) else {
+        return events::refusal(Refusal::InvalidConfig, p);
+    };
+    if ports.number(k, CREATED) != 1 {
+        return events::refusal(Refusal::InvalidConfig, p);
     }
     events::told_id(p, (k + 1) as u32)
 }

@@ -18,9 +18,9 @@ use Rattle.model.specs.Events.{event_size}
 use Rattle.model.specs.Run.{after_all, events_of, list_fault}
 use Rattle.model.proofs.Tests.{by-test}
 use Rattle.model.proofs.Searches.{first-is}
-use Rattle.loader.specs.declared.Verdict.TheVariants.{Accepted}
 use Rattle.states.specs.declared.State.{State}
 use Rattle.states.specs.Shown.{shown_state, is_sound, settled_as, at_load}
+use Rattle.kernel.specs.Shown.{refusal_of, state_kept}
 use Rattle.kernel.specs.Meets.{ListMeets, RunMeets, StepMeets, state_after}
 use Rattle.kernel.specs.Given.{Given}
 use Rattle.kernel.specs.Given as Kernel
@@ -30,6 +30,8 @@ use Rattle.state_buffer.proofs.Round.{Typed, state-back}
 use Rattle.host.specs.Exports.{is_sized, number_in, load_code, buffer_sound, buffer_or, HostLoad, HostList, HostRun, HostStep}
 use Rattle.host.proofs.Calls.{sound-as}
 use Rattle.demands.specs.Calls.{Called, by_run, by_step, HostCalled, by_host_run, by_host_step, HostGiven, by_load, by_call}
+use Rattle.demands.specs.Told.{told}
+use Rattle.demands.proofs.Told.{told-refusal, told-kept, told-meets}
 use Rattle.demands.proofs.Steps.{not-refused}
 use Rattle.demands.proofs.Widths.{load_typed, after-typed, given-typed}
 
@@ -98,8 +100,14 @@ module _ (t b : List ℕ) (typed : Typed (state_of b)) (events : List ℕ) where
     list_read : state_of b' ≡ state_after (list_fault whole events room (is_sound t (state_of b))) t (state_of b) events
     list_read = ap state_of called.state ∙ read_back (list_fault whole events room (is_sound t (state_of b))) sound
 
-    list-is-kernel : ListMeets (list_fault whole events room (is_sound t (state_of b))) t (state_of b) events room (record { refusal = r; state = state_of b' }) answers
-    list-is-kernel = record { refusal = called.refusal; state = list_read; answered = called.answered }
+    list-is-kernel : ListMeets (list_fault whole events room (is_sound t (state_of b))) t (state_of b) events room (told r (state_of b')) answers
+    list-is-kernel = told-meets whole events room (is_sound t (state_of b)) t (state_of b) called.refusal list_read called.answered
+
+    list-told : refusal_of (told r (state_of b')) ≡ r
+    list-told = told-refusal whole events room (is_sound t (state_of b)) t (state_of b) called.refusal (state_of b')
+
+    list-kept : state_kept (state_of b) (told r (state_of b')) ≡ state_of b'
+    list-kept = told-kept whole events room (is_sound t (state_of b)) t (state_of b) called.refusal list_read
 
     list-fits : Typed (state_of b')
     list-fits = subst Typed (sym list_read) (after-typed t (state_of b) typed events (list_fault whole events room (is_sound t (state_of b))) sound)
@@ -118,11 +126,24 @@ bytes-sit b whole small = record { sized = eq-eqb (length b) state_size whole; t
 
 -- a run or a step of the exported functions is the kernel's, on the state in the buffer, and leaves in the buffer the state that the kernel's leaves
 module _ (t b : List ℕ) (sits : Sits b) (events room : List ℕ) (r : ℕ) (b' answers : List ℕ) where
-  pub host-run-is-run : HostRun t b events room r b' answers → RunMeets t (state_of b) events room (record { refusal = r; state = state_of b' }) answers
+  pub host-run-is-run : HostRun t b events room r b' answers → RunMeets t (state_of b) events room (told r (state_of b')) answers
   host-run-is-run = list-is-kernel t b sits.typed events sits.sized (eqb (length events % event_size) 0) room
 
-  pub host-step-is-step : HostStep t b events room r b' answers → StepMeets t (state_of b) events room (record { refusal = r; state = state_of b' }) answers
+  pub host-step-is-step : HostStep t b events room r b' answers → StepMeets t (state_of b) events room (told r (state_of b')) answers
   host-step-is-step = list-is-kernel t b sits.typed events sits.sized (eqb (length events) event_size) room
+
+  -- the refusal and the state of that outcome are those of the exported call
+  pub host-run-told : HostRun t b events room r b' answers → refusal_of (told r (state_of b')) ≡ r
+  host-run-told = list-told t b sits.typed events sits.sized (eqb (length events % event_size) 0) room
+
+  pub host-step-told : HostStep t b events room r b' answers → refusal_of (told r (state_of b')) ≡ r
+  host-step-told = list-told t b sits.typed events sits.sized (eqb (length events) event_size) room
+
+  pub host-run-kept : HostRun t b events room r b' answers → state_kept (state_of b) (told r (state_of b')) ≡ state_of b'
+  host-run-kept = list-kept t b sits.typed events sits.sized (eqb (length events % event_size) 0) room
+
+  pub host-step-kept : HostStep t b events room r b' answers → state_kept (state_of b) (told r (state_of b')) ≡ state_of b'
+  host-step-kept = list-kept t b sits.typed events sits.sized (eqb (length events) event_size) room
 
   pub host-run-sits : HostRun t b events room r b' answers → Sits b'
   host-run-sits h =
@@ -184,15 +205,15 @@ unfolding accepts
 load-keeps t b r b' h z =
     let ok = (load-done t b (sym z ∙ h.code)).0 in
     record {
-      given = Kernel.by_load {r = record { verdict = Accepted; state = state_of b' }} (record { verdict = is-accepted (load_of t) ok; state = host-load-is-load t b r b' h z ∙ (rw ok) }) ok;
+      given = Kernel.by_load (record { verdict = is-accepted (load_of t) ok; state = host-load-is-load t b r b' h z });
       sits = subst Sits (sym (load-laid h z)) (laid-sits at_load load_typed);
     }
 
 call-keeps : {t b events room b' answers : List ℕ} → Keeps t b → HostCalled t b events room b' answers → Keeps t b'
 call-keeps {t} {b} {events} {room} {b'} {answers} k (by_host_run h) =
-    record { given = Kernel.by_run events room answers k.given (host-run-is-run t b k.sits events room 0 b' answers h) refl; sits = host-run-sits t b k.sits events room 0 b' answers h }
+    record { given = Kernel.by_run events room answers k.given (host-run-is-run t b k.sits events room 0 b' answers h); sits = host-run-sits t b k.sits events room 0 b' answers h }
 call-keeps {t} {b} {events} {room} {b'} {answers} k (by_host_step h) =
-    record { given = Kernel.by_step events room answers k.given (host-step-is-step t b k.sits events room 0 b' answers h) refl; sits = host-step-sits t b k.sits events room 0 b' answers h }
+    record { given = Kernel.by_step events room answers k.given (host-step-is-step t b k.sits events room 0 b' answers h); sits = host-step-sits t b k.sits events room 0 b' answers h }
 
 pub given-keeps : (t b : List ℕ) → HostGiven t b → Keeps t b
 given-keeps t b' (by_load {b = b} h) = load-keeps t b _ b' h refl

@@ -1,6 +1,7 @@
 -- P1 to P10 of the public step: each row of the model's one table (`edges`), for any state that shows the row's state and any outcome that meets the
 -- contract. Such a state exists for each row (`edges-shown`).
 -- Assumes nothing.
+use Rattle.std.specs.Prelude.{Result, Ok, Err, IsOkAnd}
 use Prim.Native.Nat.{ℕ}
 use mathlib.Core.Path.{◌≡◌, refl, sym, ◌∙◌, ap, subst}
 use mathlib.Core.Bool.{Bool, true, false}
@@ -26,16 +27,17 @@ use Rattle.state_test.specs.Tested.{indexed}
 use Rattle.states.specs.declared.State.{State}
 use Rattle.states.specs.Shown.{shown_state, settled_as, all_zero}
 use Rattle.states.proofs.Settled.{settled-indexed}
-use Rattle.kernel.specs.declared.Ran.{Ran}
+use Rattle.kernel.specs.declared.refusal.ListRefusal.{ListRefusal}
+use Rattle.kernel.proofs.Laws.{unnumbered}
+use Rattle.kernel.specs.Shown.{refusal_of, state_kept}
 use Rattle.kernel.specs.Meets.{StepMeets}
 use Rattle.kernel.proofs.GivenStates.{settled-shown}
 use Rattle.demands.proofs.Steps.{not-refused}
 use Rattle.demands.proofs.Body.{step-is-model}
 
 -- what a row asks of an outcome: it is not refused, the state shown is the one that the row leaves, and the 80 bytes are the row's answer
-pub record Gives (x : Edge) (r : Ran) (answers : List ℕ) : Type 0 where
-  pub refusal : r.refusal ≡ 0
-  pub left : shown_state x.tables r.state ≡ x.left
+pub record Gives (x : Edge) (r : Result State ListRefusal) (answers : List ℕ) : Type 0 where
+  pub left : IsOkAnd r (λ st. shown_state x.tables st ≡ x.left)
   pub answered : answers ≡ x.answered
 
 -- a state of the code that shows a row's state
@@ -48,17 +50,20 @@ holds_at : {xs : List Edge} → Hold xs → (x : Edge) → Memᴰ x xs → Holds
 holds_at none x m = absurd (Memᴰ.not-nil m)
 holds_at (also h hs) x m = ⊎_elim (λ e. subst Holds (sym e) h) (holds_at hs x) (Memᴰ.cases_cons m)
 
-gives : (x : Edge) → Holds x → (st : State) → Shows x st → (r : Ran) (answers : List ℕ) → StepMeets x.tables st x.asked (zeros event_size) r answers → Gives x r answers
+gives : (x : Edge) → Holds x → (st : State) → Shows x st → (r : Result State ListRefusal) (answers : List ℕ) → StepMeets x.tables st x.asked (zeros event_size) r answers → Gives x r answers
 gives x h st s r answers m =
     let is = step-is-model x.tables st s.slots x.asked (zeros event_size) r answers m in
     let same : step x.tables (shown_state x.tables st) x.asked (zeros event_size) ≡ record { refusal = 0; state = x.left; buffer = x.answered } =
     ap (λ a. step x.tables a x.asked (zeros event_size)) s.state ∙ h.stepped
     in
     record {
-      refusal = is.refusal ∙ ap (λ ran. ran.refusal) same;
-      left = is.state ∙ ap (λ ran. ran.state) same;
+      left = left r (is.refusal ∙ ap (λ ran. ran.refusal) same) (is.state ∙ ap (λ ran. ran.state) same);
       answered = is.answered ∙ ap (λ ran. ran.buffer) same;
     }
+  where
+    left : (r : Result State ListRefusal) → refusal_of r ≡ 0 → shown_state x.tables (state_kept st r) ≡ x.left → IsOkAnd r (λ st'. shown_state x.tables st' ≡ x.left)
+    left (Ok st') z e = e
+    left (Err n) z e = absurd (unnumbered n z)
 
 -- a row's state is in range: its step is not refused
 ran-fault : (fault : ℕ) (t : Tables) (s : model.State) (events room : List ℕ) → (ran_or fault t s events room).refusal ≡ 0 → fault ≡ 0
@@ -87,7 +92,7 @@ shows x h =
 pub edges-stepped :
     (x : Edge) → Memᴰ x edges  -- each row of the table,
     → (st : State) → Shows x st  -- any state of the code that shows the row's state,
-    → (r : Ran) (answers : List ℕ) → StepMeets x.tables st x.asked (zeros event_size) r answers  -- and any outcome that meets the contract of step:
+    → (r : Result State ListRefusal) (answers : List ℕ) → StepMeets x.tables st x.asked (zeros event_size) r answers  -- and any outcome that meets the contract of step:
     → Gives x r answers
 edges-stepped x m = gives x (holds_at edges-hold x m)
 

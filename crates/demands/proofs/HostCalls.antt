@@ -3,16 +3,17 @@
 -- tells code and doer alone. Every buffer that the exported functions give is such a buffer (`given-sits`, `given-slots`); of others, every one whose
 -- elements are bytes has its numbers as the layout keeps them (`bytes-sit`).
 -- Assumes nothing.
+use Rattle.std.specs.Prelude.{IsOkAnd}
 use Prim.Native.Nat.{ℕ, zero, suc, ◌<◌}
 use mathlib.Core.Path.{◌≡◌, refl, sym, ◌∙◌, ap, subst}
-use mathlib.Core.Bool.{Bool, true, ◌&&◌}
+use mathlib.Core.Bool.{Bool, true, false, ◌&&◌}
 use mathlib.Core.List.Memᴰ
 use mathlib.Core.List.{List, [], ◌∷◌, Memᴰ}
 use mathlib.Core.Logic.{⊎_elim}
 use native.Mathlib.Omega.{arith}
-use lib.Dec.{ltb}
+use lib.Dec.{eqb, ltb}
 use lib.ListN.{length, get_or, take}
-use borrow.Author.Tests.{ltb-true}
+use borrow.Author.Tests.{eqb-true, ltb-true}
 use Rattle.model.specs.Words.{byte, zeros, all_in}
 use Rattle.model.specs.Tables.{Tables}
 use Rattle.model.specs.State.{Port, fresh, loaded}
@@ -23,18 +24,20 @@ use Rattle.model.proofs.Tests.{both_left, both_right}
 use Rattle.model.proofs.Computing.{stepping}
 use Rattle.model.proofs.Edges.{Edge, edges}
 use Rattle.state_test.specs.Tested.{indexed}
+use Rattle.states.specs.declared.State.{State}
 use Rattle.states.specs.Shown.{shown_state, settled_as, all_zero}
 use Rattle.states.proofs.Load.{load-shown}
 use Rattle.state_buffer.specs.Layout.{state_of, bytes_of}
 use Rattle.state_buffer.proofs.Round.{state-back}
 use Rattle.host.specs.Exports.{HostLoad, HostRun, HostStep}
+use Rattle.demands.specs.Told.{told}
 use Rattle.demands.specs.Calls.{HostGiven, state_in}
 use Rattle.demands.proofs.Body.{run-is-model, step-is-model, given-indexed}
-use Rattle.demands.proofs.Edges.{Gives, Shows, edges-stepped, edges-shown, edges-accepted, edges-ranged}
+use Rattle.demands.proofs.Edges.{Shows, edges-stepped, edges-shown, edges-accepted, edges-ranged}
 use Rattle.demands.proofs.Refusals.{record_at, event_at, before, DidNothing, run-refused, step-refused}
 use Rattle.demands.proofs.Times.{most, Timed}
 use Rattle.demands.proofs.Widths.{zero-typed, settled-typed}
-use Rattle.demands.proofs.Buffers.{Sits, laid-sits, given-keeps, host-load-is-load, host-run-is-run, host-step-is-step}
+use Rattle.demands.proofs.Buffers.{Sits, laid-sits, given-keeps, host-load-is-load, host-run-is-run, host-step-is-step, host-run-told, host-step-told, host-run-kept, host-step-kept}
 
 -- given buffers: the slots of the state in them are in range
 pub given-sits : (t b : List ℕ) → HostGiven t b → Sits b
@@ -52,13 +55,21 @@ pub record HostIsModel (t : Tables) (m : Model.Ran) (r : ℕ) (b' answers : List
 module _ (t b : List ℕ) (sits : Sits b) (slots : indexed t (state_of b).numbers ≡ true) (events room : List ℕ) (r : ℕ) (b' answers : List ℕ) where
   pub host-run-is-model : HostRun t b events room r b' answers → HostIsModel t (run t (state_in t b) events room) r b' answers
   host-run-is-model h =
-      let m = run-is-model t (state_of b) slots events room (record { refusal = r; state = state_of b' }) answers (host-run-is-run t b sits events room r b' answers h) in
-      record { refusal = m.refusal; state = m.state; answered = m.answered }
+      let m = run-is-model t (state_of b) slots events room (told r (state_of b')) answers (host-run-is-run t b sits events room r b' answers h) in
+      record {
+        refusal = sym (host-run-told t b sits events room r b' answers h) ∙ m.refusal;
+        state = ap (shown_state t) (sym (host-run-kept t b sits events room r b' answers h)) ∙ m.state;
+        answered = m.answered;
+      }
 
   pub host-step-is-model : HostStep t b events room r b' answers → HostIsModel t (step t (state_in t b) events room) r b' answers
   host-step-is-model h =
-      let m = step-is-model t (state_of b) slots events room (record { refusal = r; state = state_of b' }) answers (host-step-is-step t b sits events room r b' answers h) in
-      record { refusal = m.refusal; state = m.state; answered = m.answered }
+      let m = step-is-model t (state_of b) slots events room (told r (state_of b')) answers (host-step-is-step t b sits events room r b' answers h) in
+      record {
+        refusal = sym (host-step-told t b sits events room r b' answers h) ∙ m.refusal;
+        state = ap (shown_state t) (sym (host-step-kept t b sits events room r b' answers h)) ∙ m.state;
+        answered = m.answered;
+      }
 
 -- an exported load that gives 0 leaves the model's state at load
 pub host-load-is-model : (t b : List ℕ) (r : ℕ) (b' : List ℕ) → HostLoad t b r b' → r ≡ 0 → state_in t b' ≡ loaded t
@@ -71,23 +82,37 @@ pub host-run-refused :
     → (byte (record_at answers i) 0 ≡ 0 → ⊥)  -- that is not answered 0:
     → DidNothing t (before t (state_of b) events i) (event_at events i) (before t (state_of b) events (suc i)) (record_at answers i)
 host-run-refused t b sits events room b' answers h =
-    run-refused t (state_of b) events room (record { refusal = 0; state = state_of b' }) answers (host-run-is-run t b sits events room 0 b' answers h) refl
+    run-refused t (state_of b) events room (state_of b') answers (host-run-is-run t b sits events room 0 b' answers h)
 
 pub host-step-refused :
     (t b : List ℕ) → Sits b → (event room b' answers : List ℕ) → HostStep t b event room 0 b' answers  -- a step that is not refused,
     → (byte (take 80 answers) 0 ≡ 0 → ⊥)  -- whose event is not answered 0:
     → DidNothing t (state_in t b) event (state_in t b') (take 80 answers)
 host-step-refused t b sits event room b' answers h =
-    step-refused t (state_of b) event room (record { refusal = 0; state = state_of b' }) answers (host-step-is-step t b sits event room 0 b' answers h) refl
+    step-refused t (state_of b) event room (state_of b') answers (host-step-is-step t b sits event room 0 b' answers h)
 
--- P1 to P10
+-- P1 to P10: what a row asks of an exported step
+pub record HostGives (x : Edge) (r : ℕ) (b' answers : List ℕ) : Type 0 where
+  pub refusal : r ≡ 0
+  pub left : state_in x.tables b' ≡ x.left
+  pub answered : answers ≡ x.answered
+
 pub host-edges-stepped :
     (x : Edge) → Memᴰ x edges  -- each row of the table,
     → (b : List ℕ) → Sits b → Shows x (state_of b)  -- any buffer whose state shows the row's,
     → (r : ℕ) (b' answers : List ℕ) → HostStep x.tables b x.asked (zeros event_size) r b' answers  -- and any outcome of the exported step:
-    → Gives x (record { refusal = r; state = state_of b' }) answers
+    → HostGives x r b' answers
 host-edges-stepped x m b sits shows r b' answers h =
-    edges-stepped x m (state_of b) shows (record { refusal = r; state = state_of b' }) answers (host-step-is-step x.tables b sits x.asked (zeros event_size) r b' answers h)
+    let gives = edges-stepped x m (state_of b) shows (told r (state_of b')) answers (host-step-is-step x.tables b sits x.asked (zeros event_size) r b' answers h) in
+    let is = of-told (eqb r 0) refl gives.left in
+    record { refusal = is.0; left = is.1; answered = gives.answered }
+  where
+    P : State → Type 0
+    P st = shown_state x.tables st ≡ x.left
+
+    of-told : (c : Bool) → eqb r 0 ≡ c → IsOkAnd (told r (state_of b')) P → (r ≡ 0) × P (state_of b')
+    of-told true e i = (eqb-true r 0 e, rw e at i)
+    of-told false e i = absurd (rw e at i)
 
 -- there is such a buffer: that of the row's own state, in settled form. Its times fit 32 bits
 timely : Edge → Bool

@@ -2,6 +2,7 @@
 -- runs or steps, of which `isolation` (kernel/proofs/Isolation) has the runs.
 -- Any outcomes that meet the contracts are meant, and no other premise is asked: a host that hands back the buffers that it was given meets it.
 -- Assumes nothing.
+use Rattle.std.specs.Prelude.{Ok}
 use Prim.Native.Nat.{ℕ, ◌<◌}
 use mathlib.Core.Path.{◌≡◌, refl}
 use mathlib.Core.Bool.{true}
@@ -21,7 +22,7 @@ use Rattle.demands.proofs.Steps.{step-is-run, step-length}
 use Rattle.demands.proofs.Buffers.{given-keeps, host-call-is-call}
 
 -- a call that is not refused is a run
-called-run : {t : Tables} {st : State} {events room : List ℕ} {st' : State} {answers : List ℕ} → Called t st events room st' answers → RunMeets t st events room (record { refusal = 0; state = st' }) answers
+called-run : {t : Tables} {st : State} {events room : List ℕ} {st' : State} {answers : List ℕ} → Called t st events room st' answers → RunMeets t st events room (Ok st') answers
 called-run (by_run m) = m
 called-run (by_step m) = step-is-run (step-length m refl) m
 
@@ -34,10 +35,9 @@ pub call-isolation :
     → ((d : ℕ) → is_member d (set_of t p (shown_state t st) (events_of events)) ≡ true → holds t (shown_state t st) d ≡ holds t (shown_state t st') d)  -- that agrees on what each final member holds,
     → (events' room' : List ℕ) (after' : State) (answers' : List ℕ) → Called t st' events' room' after' answers'  -- and a second such call,
     → mattering_to t p (shown_state t st) (events_of events) ≡ mattering_to t p (shown_state t st') (events_of events')  -- whose mattering events from there are the same records in the same order:
-    → SameBytes t p st events (record { refusal = 0; state = after }) answers st' events' (record { refusal = 0; state = after' }) answers'
+    → SameBytes t p st events after answers st' events' after' answers'
 call-isolation t p few st g events room after answers c st' g' agree events' room' after' answers' c' =
-    isolation t p few st g events room (record { refusal = 0; state = after }) answers (called-run c) refl
-    st' g' agree events' room' (record { refusal = 0; state = after' }) answers' (called-run c') refl
+    isolation t p few st g events room after answers (called-run c) st' g' agree events' room' after' answers' (called-run c')
 
 -- what the partition sees of an exported call, bytes and all: the 80-byte records that answer its calls, and what it holds in the buffer afterwards
 pub record SameToHost (t : List ℕ) (p : ℕ) (b events after answers b' events' after' answers' : List ℕ) : Type 0 where

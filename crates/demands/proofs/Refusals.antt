@@ -2,6 +2,7 @@
 -- Of a step, and of each event of a run. The numbers of the state may come back in another arrangement, its settled form, which shows the same: 01 calls
 -- two states the same if window, time, modes, marks, arrival times, last validities and messages agree, and that is what is shown.
 -- Assumes nothing.
+use Rattle.std.specs.Prelude.{Ok}
 use Prim.Native.Nat.{ℕ, zero, suc, ◌+◌, ◌*◌, ◌/◌, ◌%◌, ◌≤◌, ◌<◌}
 use mathlib.Core.Path.{◌≡◌, refl, sym, ◌∙◌, ap, subst}
 use mathlib.Core.List.{List, [], ◌∷◌, ◌++◌, append_assoc}
@@ -19,7 +20,6 @@ use Rattle.model.proofs.Lists.{answer-length, events-append}
 use Rattle.model.proofs.Refusals.{refused-changes-nothing}
 use Rattle.states.specs.declared.State.{State}
 use Rattle.states.specs.Shown.{shown_state, is_sound}
-use Rattle.kernel.specs.declared.Ran.{Ran}
 use Rattle.kernel.specs.Meets.{RunMeets, StepMeets}
 use Rattle.kernel.proofs.GivenStates.{run-leaves, run-answers}
 use Rattle.demands.proofs.Steps.{not-refused, step-length, one-event}
@@ -66,13 +66,13 @@ module _ (t : Tables) where
       record { unchanged = refused.unchanged; bare = subst (λ l. l ≡ byte l 0 ∷ doer t s e ∷ zeros 78) (sym same) refused.bare }
 
 pub run-refused :
-    (t : Tables) (st : State) (events room : List ℕ) (r : Ran) (answers : List ℕ) → RunMeets t st events room r answers → r.refusal ≡ 0  -- a list that is run,
+    (t : Tables) (st : State) (events room : List ℕ) (st' : State) (answers : List ℕ) → RunMeets t st events room (Ok st') answers  -- a list that is run,
     → (i : ℕ) → i < length (events_of events)  -- and an event of it
     → (byte (record_at answers i) 0 ≡ 0 → ⊥)  -- that is not answered 0:
     → DidNothing t (before t st events i) (event_at events i) (before t st events (suc i)) (record_at answers i)
-run-refused t st events room r answers m z i h code =
+run-refused t st events room st' answers m i h code =
     let s = shown_state t st in
-    let same = ap (λ b. record_at b i) (run-answers m z) ∙ record_is t s (events_of events) (drop (length events) room) i h in
+    let same = ap (λ b. record_at b i) (run-answers m refl) ∙ record_is t s (events_of events) (drop (length events) room) i h in
     subst (λ s'. DidNothing t (before t st events i) (event_at events i) s' (record_at answers i)) (sym (after_next t s (events_of events) i h))
     (did_nothing t (before t st events i) (event_at events i) (record_at answers i) same code)
 
@@ -92,22 +92,22 @@ first-events events i h =
 
 pub before-shown :
     (t : Tables) (st : State) (events : List ℕ) (i : ℕ) → 80 * i ≤ length events
-    → (room : List ℕ) (r : Ran) (answers : List ℕ) → RunMeets t st (take (80 * i) events) room r answers → r.refusal ≡ 0
-    → shown_state t r.state ≡ before t st events i
-before-shown t st events i h room r answers m z =
+    → (room : List ℕ) (st' : State) (answers : List ℕ) → RunMeets t st (take (80 * i) events) room (Ok st') answers
+    → shown_state t st' ≡ before t st events i
+before-shown t st events i h room st' answers m =
     let part = take (80 * i) events in
-    let sound = (not-refused (eqb (length part % event_size) 0) part room (is_sound t st) (sym m.refusal ∙ z)).is_sound in
-    run-leaves sound m z ∙ ap (after_all t (shown_state t st)) (first-events events i h)
+    let sound = (not-refused (eqb (length part % event_size) 0) part room (is_sound t st) (sym m.refusal)).is_sound in
+    run-leaves sound m refl ∙ ap (after_all t (shown_state t st)) (first-events events i h)
 
 pub step-refused :
-    (t : Tables) (st : State) (event room : List ℕ) (r : Ran) (answers : List ℕ) → StepMeets t st event room r answers → r.refusal ≡ 0  -- a step that is not refused,
+    (t : Tables) (st : State) (event room : List ℕ) (left : State) (answers : List ℕ) → StepMeets t st event room (Ok left) answers  -- a step that is not refused,
     → (byte (take 80 answers) 0 ≡ 0 → ⊥)  -- whose event is not answered 0:
-    → DidNothing t (shown_state t st) event (shown_state t r.state) (take 80 answers)
-step-refused t st event room r answers m z code =
+    → DidNothing t (shown_state t st) event (shown_state t left) (take 80 answers)
+step-refused t st event room left answers m code =
     let s = shown_state t st in
-    let sound = (not-refused (eqb (length event) event_size) event room (is_sound t st) (sym m.refusal ∙ z)).is_sound in
-    let one = one-event event (step-length m z) in
+    let sound = (not-refused (eqb (length event) event_size) event room (is_sound t st) (sym m.refusal)).is_sound in
+    let one = one-event event (step-length m refl) in
     let there : 0 < length (events_of event) = omega (arith, ap length one) in
-    let same = ap (take 80) (run-answers m z) ∙ record_is t s (events_of event) (drop (length event) room) 0 there ∙ ap (λ es. answer t s (get_or es 0 [])) one in
-    subst (λ s'. DidNothing t s event s' (take 80 answers)) (sym (run-leaves sound m z ∙ ap (after_all t s) one))
+    let same = ap (take 80) (run-answers m refl) ∙ record_is t s (events_of event) (drop (length event) room) 0 there ∙ ap (λ es. answer t s (get_or es 0 [])) one in
+    subst (λ s'. DidNothing t s event s' (take 80 answers)) (sym (run-leaves sound m refl ∙ ap (after_all t s) one))
     (did_nothing t s event (take 80 answers) same code)

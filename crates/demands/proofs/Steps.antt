@@ -1,6 +1,7 @@
 -- A step is a run of one event: whatever meets the contract of step on 80 bytes meets that of run, of the kernel and of the exported functions.
 -- A step that is not refused had 80 bytes.
 -- Assumes nothing.
+use Rattle.std.specs.Prelude.{Result}
 use Prim.Native.Nat.{ℕ, ◌%◌}
 use mathlib.Core.Path.{◌≡◌, refl, sym, ◌∙◌, ap, subst}
 use mathlib.Core.Bool.{Bool, true, false}
@@ -15,7 +16,8 @@ use Rattle.model.specs.Events.{event_size}
 use Rattle.model.specs.Run.{events_of, list_fault}
 use Rattle.states.specs.declared.State.{State}
 use Rattle.states.specs.Shown.{is_sound}
-use Rattle.kernel.specs.declared.Ran.{Ran}
+use Rattle.kernel.specs.declared.refusal.ListRefusal.{ListRefusal}
+use Rattle.kernel.specs.Shown.{refusal_of}
 use Rattle.kernel.specs.Meets.{ListMeets, RunMeets, StepMeets}
 use Rattle.host.specs.Exports.{HostList, HostRun, HostStep, buffer_sound}
 
@@ -40,11 +42,11 @@ not-refused whole events room sound = go whole (ltb (length room) (length events
 one-whole : (event : List ℕ) → length event ≡ event_size → eqb (length event) event_size ≡ eqb (length event % event_size) 0
 one-whole event e = eq-eqb (length event) event_size e ∙ sym (eq-eqb (length event % event_size) 0 (omega arith))
 
-module _ {t : Tables} {st : State} {event room : List ℕ} {r : Ran} {answers : List ℕ} where
+module _ {t : Tables} {st : State} {event room : List ℕ} {r : Result State ListRefusal} {answers : List ℕ} where
   pub step-is-run : length event ≡ event_size → StepMeets t st event room r answers → RunMeets t st event room r answers
   step-is-run e = subst (λ w. ListMeets (list_fault w event room (is_sound t st)) t st event room r answers) (one-whole event e)
 
-  pub step-length : StepMeets t st event room r answers → r.refusal ≡ 0 → length event ≡ event_size
+  pub step-length : StepMeets t st event room r answers → refusal_of r ≡ 0 → length event ≡ event_size
   step-length m z = eqb-true (length event) event_size (not-refused (eqb (length event) event_size) event room (is_sound t st) (sym m.refusal ∙ z)).is_whole
 
 module _ {t b event room : List ℕ} {r : ℕ} {b' answers : List ℕ} where

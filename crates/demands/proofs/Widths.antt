@@ -23,7 +23,7 @@ use Rattle.model.specs.Run.{after_all, events_of, joined}
 use Rattle.model.proofs.Tests.{both_left, both_right, between-high, by-test}
 use Rattle.model.proofs.Accepted.{accepted}
 use Rattle.ports.specs.Held.{row_of, port_at, ports_of}
-use Rattle.ports.proofs.Ports.{ports-length, ports-at}
+use Rattle.ports.proofs.PortAt.{ports-length, ports-at}
 use Rattle.settled_form.specs.Settled.{port_numbers, port_bytes, settled_numbers, settled_bytes}
 use Rattle.settled_form.proofs.Laid.{numbers-length, bytes-length}
 use Rattle.states.specs.declared.State.{State}
@@ -168,8 +168,8 @@ module _ (t : Tables) (st : State) (typed : Typed st) (events : List ℕ) where
 
 -- each state that the public calls give fits
 pub given-typed : (t : Tables) (st : State) → Given t st → Typed st
-given-typed t st (by_load m ok) = subst Typed (sym (m.state ∙ (rw ok))) load_typed
-given-typed t st (by_step {st = s} event room answers g m z) =
+given-typed t st (by_load m) = subst Typed (sym m.state) load_typed
+given-typed t st (by_step {st = s} event room answers g m) =
     subst Typed (sym m.state) (after-typed t s (given-typed t s g) event _ (λ e. (not-refused (eqb (length event) event_size) event room (is_sound t s) e).is_sound))
-given-typed t st (by_run {st = s} events room answers g m z) =
+given-typed t st (by_run {st = s} events room answers g m) =
     subst Typed (sym m.state) (after-typed t s (given-typed t s g) events _ (λ e. (not-refused (eqb (length events % event_size) 0) events room (is_sound t s) e).is_sound))

@@ -1,6 +1,7 @@
 -- The wrong kernels of specs/WrongKernels, each shut out by the contract of run on a small worked input, from the state at load: two clock steps, and a message
 -- that is sent and counted.
 -- Assumes nothing.
+use Rattle.std.specs.Prelude.{Result, Ok, Err}
 use Prim.Native.Nat.{ℕ, ◌+◌, ◌*◌, ◌%◌, ◌/◌, ◌<◌}
 use mathlib.Core.Path.{◌≡◌, refl, sym, ◌∙◌, ap}
 use mathlib.Core.Bool.{true}
@@ -22,10 +23,14 @@ use Rattle.model.proofs.Computing.{computing}
 use Rattle.model.proofs.Laid.{window_row, port_row, channel_row, event, answer_row}
 use Rattle.states.specs.Shown.{shown_state, is_sound, at_load}
 use Rattle.states.proofs.Load.{load-shown, load_fits}
-use Rattle.kernel.specs.declared.Ran.{Ran}
+use Rattle.states.specs.declared.State.{State}
+use Rattle.kernel.specs.declared.refusal.ListRefusal.{ListRefusal}
+use Rattle.kernel.specs.Shown.{refusal_of, state_kept}
+use Rattle.kernel.proofs.Laws.{unnumbered}
+use Rattle.demands.proofs.Told.{told-meets}
 use Rattle.kernel.specs.Meets.{RunMeets}
 use Rattle.kernel.proofs.GivenStates.{run-leaves, run-answers}
-use Rattle.demands.specs.WrongKernels.{MeetsOn, Meets, right, refuses_everything, constant_answer, changes_nothing, first_then_prints, other_records, telling, invented_counts, invented_times}
+use Rattle.demands.specs.WrongKernels.{MeetsOn, Meets, right, refuses_everything, with_state, constant_answer, changes_nothing, first_then_prints, other_records, telling, invented_counts, invented_times}
 
 -- from the state at load of accepted tables, a list of whole records with room for its answers is run: what any outcome is
 load-passes : (t : Tables) → accepts t ≡ true → is_sound t at_load ≡ true
@@ -39,11 +44,11 @@ module _ (t : Tables) (ok : accepts t ≡ true) (events room : List ℕ) (runs :
   others-are : (records : Tables → model.State → List Event → List (List ℕ)) → (other_records records t at_load events room).answers ≡ joined (records t (loaded t) (events_of events)) ++ drop (length events) room
   others-are records = rw list-runs (ap (λ s. joined (records t s (events_of events)) ++ drop (length events) room) (load-shown t))
 
-  module _ {r : Ran} {answers' : List ℕ} (m : RunMeets t at_load events room r answers') where
-    refusal_is : r.refusal ≡ 0
+  module _ {r : Result State ListRefusal} {answers' : List ℕ} (m : RunMeets t at_load events room r answers') where
+    refusal_is : refusal_of r ≡ 0
     refusal_is = m.refusal ∙ list-runs
 
-    shown-is : shown_state t r.state ≡ after_all t (loaded t) (events_of events)
+    shown-is : shown_state t (state_kept at_load r) ≡ after_all t (loaded t) (events_of events)
     shown-is = run-leaves (load-passes t ok) m refusal_is ∙ ap (λ s. after_all t s (events_of events)) (load-shown t)
 
     answers-are : answers' ≡ joined (answers t (loaded t) (events_of events)) ++ drop (length events) room
@@ -82,20 +87,27 @@ clock-left : (after_all clock_tables (loaded clock_tables) (events_of two_clocks
 unfolding computing
 clock-left = refl
 
-pub refuses-everything : (n : ℕ) → (n ≡ 0 → ⊥) → MeetsOn (refuses_everything n) clock_tables at_load two_clocks clock_room → ⊥
-refuses-everything n some m = some (refusal_is clock_tables clock-accepted two_clocks clock_room clock-runs m)
+pub refuses-everything : (e : ListRefusal) → MeetsOn (refuses_everything e) clock_tables at_load two_clocks clock_room → ⊥
+refuses-everything e m = unnumbered e (refusal_is clock_tables clock-accepted two_clocks clock_room clock-runs m)
+
+-- another state in a result that is no refusal is the state that is left
+kept-with : (before other : State) (r : Result State ListRefusal) → refusal_of (with_state other r) ≡ 0 → state_kept before (with_state other r) ≡ other
+kept-with before other (Ok st) z = refl
+kept-with before other (Err e) z = absurd (unnumbered e z)
 
 pub changes-nothing : MeetsOn changes_nothing clock_tables at_load two_clocks clock_room → ⊥
 unfolding loaded
 changes-nothing m =
     let stays : ◌≡◌ {A = ℕ} (shown_state clock_tables at_load).clock.time 0 = ap (λ s. s.clock.time) (load-shown clock_tables) in
-    let goes : ◌≡◌ {A = ℕ} (shown_state clock_tables at_load).clock.time 20 = ap (λ s. s.clock.time) (shown-is clock_tables clock-accepted two_clocks clock_room clock-runs m) ∙ clock-left in
+    let run = (right clock_tables at_load two_clocks clock_room).result in
+    let kept = kept-with at_load at_load run (refusal_is clock_tables clock-accepted two_clocks clock_room clock-runs m) in
+    let goes : ◌≡◌ {A = ℕ} (shown_state clock_tables at_load).clock.time 20 = ap (λ st. (shown_state clock_tables st).clock.time) (sym kept) ∙ ap (λ s. s.clock.time) (shown-is clock_tables clock-accepted two_clocks clock_room clock-runs m) ∙ clock-left in
     let no : ◌≡◌ {A = ℕ} 0 20 = sym stays ∙ goes in
     omega arith
 
 -- the right kernel meets it on every input
 pub right-meets : Meets right
-right-meets t st events room = record { refusal = refl; state = refl; answered = refl }
+right-meets t st events room = told-meets (eqb (length events % event_size) 0) events room (is_sound t st) t st refl refl refl
 
 one-runs : list_fault (eqb (length (take event_size two_clocks) % event_size) 0) (take event_size two_clocks) clock_room true ≡ 0
 unfolding computing
@@ -108,7 +120,9 @@ one_left = refl
 pub first-then-prints : MeetsOn first_then_prints clock_tables at_load two_clocks clock_room → ⊥
 first-then-prints m =
     let one = ap (λ s. s.clock.time) (shown-is clock_tables clock-accepted (take event_size two_clocks) clock_room one-runs (right-meets clock_tables at_load (take event_size two_clocks) clock_room)) ∙ one_left in
-    let two = ap (λ s. s.clock.time) (shown-is clock_tables clock-accepted two_clocks clock_room clock-runs m) ∙ clock-left in
+    let first = state_kept at_load (right clock_tables at_load (take event_size two_clocks) clock_room).result in
+    let kept = kept-with at_load first (right clock_tables at_load two_clocks clock_room).result (refusal_is clock_tables clock-accepted two_clocks clock_room clock-runs m) in
+    let two = ap (λ st. (shown_state clock_tables st).clock.time) (sym kept) ∙ ap (λ s. s.clock.time) (shown-is clock_tables clock-accepted two_clocks clock_room clock-runs m) ∙ clock-left in
     let no : ◌≡◌ {A = ℕ} 10 20 = sym one ∙ two in
     omega arith
 

@@ -1,6 +1,6 @@
 -- Calls that are not refused, of the kernel and of the exported functions: a run of a list, or a step, which is a run of one event.
 -- Assumes nothing.
-use Rattle.std.specs.Prelude.{ℕ, List}
+use Rattle.std.specs.Prelude.{ℕ, List, Ok}
 use Rattle.model.specs.Tables.{Tables}
 use Rattle.model.specs.State as model
 use Rattle.states.specs.declared.State.{State}
@@ -9,10 +9,10 @@ use Rattle.kernel.specs.Meets.{RunMeets, StepMeets}
 use Rattle.state_buffer.specs.Layout.{state_of}
 use Rattle.host.specs.Exports.{HostLoad, HostRun, HostStep}
 
--- the kernel's: any outcome that meets the contract, with refusal 0, this state and these answers
+-- the kernel's: any outcome that meets the contract, with this state and these answers
 pub data Called (t : Tables) (st : State) (events room : List ℕ) (st' : State) (answers : List ℕ) : Type 0 where
-  by_run : RunMeets t st events room (record { refusal = 0; state = st' }) answers → Called t st events room st' answers
-  by_step : StepMeets t st events room (record { refusal = 0; state = st' }) answers → Called t st events room st' answers
+  by_run : RunMeets t st events room (Ok st') answers → Called t st events room st' answers
+  by_step : StepMeets t st events room (Ok st') answers → Called t st events room st' answers
 
 -- the exported functions': the state stands in a buffer
 pub data HostCalled (t b events room b' answers : List ℕ) : Type 0 where

@@ -1,7 +1,7 @@
 -- The kernels that 01's last section says demand 2 shuts out, as functions of a run's input: tables, a state, event bytes and room for the answers.
 -- Each but the first is the right kernel with the one fault that 01 names. proofs/WrongKernels shows of each that the contract of run refuses it.
 -- Assumes nothing.
-use Rattle.std.specs.Prelude.{if◌then◌else◌, ℕ, ◌%◌, ◌&&◌, List, [], ◌∷◌, ◌++◌, eqb, length, take, drop, replicate}
+use Rattle.std.specs.Prelude.{if◌then◌else◌, ℕ, ◌%◌, ◌&&◌, List, [], ◌∷◌, ◌++◌, eqb, length, take, drop, replicate, Result, Ok, Err}
 use Rattle.model.specs.Words.{byte, word32, bytes32}
 use Rattle.model.specs.Tables.{Tables}
 use Rattle.model.specs.State as model
@@ -9,12 +9,14 @@ use Rattle.model.specs.Events.{Event, event_size, get_queuing_port_status}
 use Rattle.model.specs.Run.{answers, events_of, joined, list_fault}
 use Rattle.states.specs.declared.State.{State}
 use Rattle.states.specs.Shown.{shown_state, is_sound}
-use Rattle.kernel.specs.declared.Ran.{Ran}
+use Rattle.kernel.specs.declared.refusal.ListRefusal.{ListRefusal}
+use Rattle.kernel.specs.Shown.{refusal_of, state_kept}
 use Rattle.kernel.specs.Meets.{RunMeets, state_after, answers_after}
+use Rattle.demands.specs.Told.{told}
 
--- what a kernel gives for a run: 0 or the refusal with the state, and the answers
+-- what a kernel gives for a run: the state or the refusal, and the answers
 pub record Outcome : Type 0 where
-  pub ran : Ran
+  pub result : Result State ListRefusal
   pub answers : List ℕ
 
 abbrev pub Kernel : Type 0
@@ -22,7 +24,7 @@ Kernel = Tables → State → List ℕ → List ℕ → Outcome
 
 -- its outcome on an input meets the contract
 abbrev pub MeetsOn : Kernel → Tables → State → List ℕ → List ℕ → Type 0
-MeetsOn k t st events room = RunMeets t st events room (k t st events room).ran (k t st events room).answers
+MeetsOn k t st events room = RunMeets t st events room (k t st events room).result (k t st events room).answers
 
 -- and so on every input
 abbrev pub Meets : Kernel → Type 0
@@ -32,35 +34,40 @@ Meets k = (t : Tables) (st : State) (events room : List ℕ) → MeetsOn k t st 
 abbrev pub right : Kernel
 right t st events room =
     let fault = list_fault (eqb (length events % event_size) 0) events room (is_sound t st) in
-    record { ran = record { refusal = fault; state = state_after fault t st events }; answers = answers_after fault t st events room }
+    record { result = told fault (state_after fault t st events); answers = answers_after fault t st events room }
 
--- one that refuses everything, with any number
-abbrev pub refuses_everything : ℕ → Kernel
-refuses_everything n t st events room = record { ran = record { refusal = n; state = st }; answers = room }
+-- one that refuses everything, with any refusal
+abbrev pub refuses_everything : ListRefusal → Kernel
+refuses_everything e t st events room = record { result = Err e; answers = room }
 
 -- the right kernel with other answer records, where a list is run
 abbrev pub other_records : (Tables → model.State → List Event → List (List ℕ)) → Kernel
 other_records records t st events room =
-    let ran = (right t st events room).ran in
+    let result = (right t st events room).result in
     record {
-      ran = ran;
-      answers = if eqb ran.refusal 0 then joined (records t (shown_state t st) (events_of events)) ++ drop (length events) room else room;
+      result = result;
+      answers = if eqb (refusal_of result) 0 then joined (records t (shown_state t st) (events_of events)) ++ drop (length events) room else room;
     }
 
 -- one with a constant answer: any one record, to every event
 abbrev pub constant_answer : List ℕ → Kernel
 constant_answer c = other_records (λ t s es. replicate (length es) c)
 
+-- a result with another state, where there is one
+abbrev pub with_state : State → Result State ListRefusal → Result State ListRefusal
+with_state other (Ok st) = Ok other
+with_state other (Err e) = Err e
+
 -- one that changes nothing: its answers are right, and the state comes back as it came
 abbrev pub changes_nothing : Kernel
 changes_nothing t st events room =
-    record { ran = record { refusal = (right t st events room).ran.refusal; state = st }; answers = (right t st events room).answers }
+    record { result = with_state st (right t st events room).result; answers = (right t st events room).answers }
 
 -- one that runs the first event honestly and then only prints answers: they are right, and the state is that after the first event
 abbrev pub first_then_prints : Kernel
 first_then_prints t st events room =
     record {
-      ran = record { refusal = (right t st events room).ran.refusal; state = (right t st (take event_size events) room).ran.state };
+      result = with_state (state_kept st (right t st (take event_size events) room).result) (right t st events room).result;
       answers = (right t st events room).answers;
     }
 

@@ -18,8 +18,7 @@ use Rattle.model.proofs.Lists.{after-append, answers-append, joined-append, answ
 use Rattle.model.specs.Ranged.{Ranged}
 use Rattle.model.proofs.Reached.{after-ranged}
 use Rattle.events.specs.declared.clock.Clock.{Clock}
-use Rattle.service_contracts.specs.declared.Layout.{Layout}
-use Rattle.service_contracts.specs.Did.{Held, shown}
+use Rattle.service_contracts.specs.Did.{shown}
 use Rattle.service_contracts.proofs.Holding.{held_of}
 use Rattle.event_step.specs.Turned.{clock_of, Ready}
 use Rattle.event_list.specs.Stepped.{LeavesAt, RunsTo}
@@ -42,21 +41,16 @@ joined_length t s (e ∷ es) =
     length-append (answer t s e) (joined (answers t (after t s e) es))
     ∙ omega (arith, answer-length t s e, joined_length t (after t s e) es)
 
--- a state in range is ready, once its arrays are whole
-pub ready_for : {t : Tables} {lay : Layout} {clock : Clock} {modes numbers bytes numbers' bytes' : List ℕ} → Held t lay numbers bytes → length numbers' ≡ length numbers → length bytes' ≡ length bytes
-    → Ranged t (shown t (clock_of clock) modes numbers' bytes') → Ready t lay clock modes numbers' bytes'
-ready_for h n b r = record { held = held_of h.accepted h.laid (n ∙ h.rows) (b ∙ h.blocks) r; ranged = r }
-
 -- no event yet
-pub none_yet : {t : Tables} {lay : Layout} {clock : Clock} {modes numbers bytes : List ℕ} (events answers : List ℕ) → Ready t lay clock modes numbers bytes
-    → RunsTo t lay 0 events clock modes numbers bytes answers clock modes numbers bytes answers
+pub none_yet : {t : Tables} {clock : Clock} {modes numbers bytes : List ℕ} (events answers : List ℕ) → Ready t clock modes numbers bytes
+    → RunsTo t 0 events clock modes numbers bytes answers clock modes numbers bytes answers
 none_yet events answers h = record { ready = h; answered = refl; left = refl }
 
 -- one event more
 module _
-    (t : Tables) (lay : Layout) (n : ℕ) (events : List ℕ) (fits : 80 * n + 80 ≤ length events)
+    (t : Tables) (n : ℕ) (events : List ℕ) (fits : 80 * n + 80 ≤ length events)
     (c₀ : Clock) (m₀ n₀ b₀ a₀ : List ℕ) (c₁ : Clock) (m₁ n₁ b₁ a₁ : List ℕ) (c₂ : Clock) (m₂ n₂ b₂ a₂ : List ℕ)
-    (h : RunsTo t lay n events c₀ m₀ n₀ b₀ a₀ c₁ m₁ n₁ b₁ a₁)
+    (h : RunsTo t n events c₀ m₀ n₀ b₀ a₀ c₁ m₁ n₁ b₁ a₁)
     (step : LeavesAt t (take 80 (drop (80 * n) events)) n c₁ m₁ n₁ b₁ a₁ c₂ m₂ n₂ b₂ a₂)
   where
     s₀ : State
@@ -116,14 +110,15 @@ module _
         ∙ sym (append_assoc x ans (drop (80 * (n + 1)) a₀))
         ∙ sym (ap (λ l. l ++ drop (80 * (n + 1)) a₀) more-joined)
 
-    pub one_more : length n₂ ≡ length n₁ → length b₂ ≡ length b₁ → RunsTo t lay (n + 1) events c₀ m₀ n₀ b₀ a₀ c₂ m₂ n₂ b₂ a₂
+    pub one_more : RunsTo t (n + 1) events c₀ m₀ n₀ b₀ a₀ c₂ m₂ n₂ b₂ a₂
     unfolding s₀ e
-    one_more rows blocks =
+    one_more =
+        let ranged : Ranged t (shown t (clock_of c₂) m₂ n₂ b₂) =
+        subst (Ranged t) (sym step.left)
+        (after-ranged t (accepted t h.ready.held.accepted) (shown t (clock_of c₁) m₁ n₁ b₁) h.ready.ranged e (length-take-le 80 (drop (80 * n) events) (simp length-drop (omega arith))))
+        in
         record {
-          ready =
-              ready_for h.ready.held rows blocks
-              (subst (Ranged t) (sym step.left)
-              (after-ranged t (accepted t h.ready.held.accepted) (shown t (clock_of c₁) m₁ n₁ b₁) h.ready.ranged e (length-take-le 80 (drop (80 * n) events) (simp length-drop (omega arith)))));
+          ready = record { held = held_of h.ready.held.accepted ranged; ranged = ranged };
           answered = more-answered;
           left = more_left;
         }

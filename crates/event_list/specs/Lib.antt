@@ -1,2 +1,2 @@
--- A list of events over the lent arrays.
+-- A list of events over clock, modes and ports.
 pub mod Stepped

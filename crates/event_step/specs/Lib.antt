@@ -1,2 +1,2 @@
--- One event over the lent arrays.
+-- One event over clock, modes and ports.
 pub mod Turned

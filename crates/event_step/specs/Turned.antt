@@ -1,4 +1,4 @@
--- One event over clock, modes and lent arrays, against the model's step.
+-- One event over clock, modes and ports, against the model's step.
 -- Assumes nothing.
 use Rattle.std.specs.Prelude.{ℕ, ◌≡◌, List}
 use Rattle.model.specs.Tables.{Tables}
@@ -9,16 +9,15 @@ use Rattle.model.specs.Ranged.{Ranged}
 use Rattle.events.specs.Shown.{replied}
 use Rattle.events.specs.declared.answers.Answer.{Answer}
 use Rattle.events.specs.declared.clock.Clock.{Clock}
-use Rattle.service_contracts.specs.declared.Layout.{Layout}
 use Rattle.service_contracts.specs.Did.{Held, shown}
 
 -- the clock that the code's record shows
 abbrev pub clock_of : Clock → model.Clock
 clock_of c = record { window = c.window; time = c.time }
 
--- what a step may count on: accepted tables with their layout, whole arrays, and a state in range
-pub record Ready (t : Tables) (lay : Layout) (clock : Clock) (modes numbers bytes : List ℕ) : Type 0 where
-  pub held : Held t lay numbers bytes
+-- what a step may count on: accepted tables, and a state in range
+pub record Ready (t : Tables) (clock : Clock) (modes numbers bytes : List ℕ) : Type 0 where
+  pub held : Held t numbers bytes
   pub ranged : Ranged t (shown t (clock_of clock) modes numbers bytes)
 
 -- what one event answers and leaves: the model's answer to it, and the model's state after it

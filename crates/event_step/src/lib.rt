@@ -1,20 +1,20 @@
 // Whose turn it is, what that doer does, and the clock's own step.
 #![tactic(auto)]
 
-ghost use Rattle.std.specs.Prelude.{◌≡◌, true, ◌<◌, length};
-ghost use Rattle.model.specs.Tables.{windows};
-ghost use Rattle.model.specs.Load.{accepts};
+ghost use Rattle.std.specs.Prelude.{ℕ, ◌≡◌, ◌<◌, List, length};
 ghost use Rattle.model.specs.State.{tick};
-ghost use Rattle.model.specs.Events.{decode, call, move};
+ghost use Rattle.model.specs.Events.{decode};
+ghost use Rattle.model.specs.Events as asks;
 ghost use Rattle.events.specs.Shown.{call_of};
-ghost use Rattle.service_contracts.specs.Did.{Laid};
+ghost use Rattle.service_contracts.specs.Did.{Held};
 ghost use Rattle.event_step.specs.Turned.{clock_of, Ready, Answers};
 
-use events::{Answer, Asked, Clock, Fields, NOBODY, SCHEDULER};
-use service_contracts::Layout;
-use tables::MOVER;
+use events::{Answer, Asked, Call, Clock, NOBODY, Refusal, SCHEDULER};
+use ports::Ports;
+use tables::{MOVER, Tables};
 
-// An event's answer, and the clock after it.
+// An event's answer, and the clock after it: both stand there for each event, neither tells of the other. Clock, modes and ports go side by side: the clock is handed
+// back, and the other two are lent each to those services that need it, so that one struct of all three would be taken apart at once.
 #[derive(Clone, Copy)]
 pub struct Turned {
     pub answer: Answer,
@@ -22,102 +22,85 @@ pub struct Turned {
 }
 
 // Time grows by the current window's length; next window, after the last the first.
-fn tick(t: &[u8], lay: Layout, clock: Clock) -> Clock
-    requires { (accepts t.now ≡ true) × Laid t.now lay × (clock.window < windows t.now) }
-    ensures { clock_of result ≡ tick t.now (clock_of clock) }
+fn tick(tables: Tables, clock: Clock) -> Clock
+    requires { clock.window < tables.windows }
+    ensures { clock_of result ≡ tick tables.entry.bytes.now (clock_of clock) }
 {
-    let window = clock.window;
-    let time = events::later(clock.time, tables::window_length(t, window));
-    if window + 1 < lay.windows {
-        return Clock {
-            window: window + 1,
-            time,
-        };
+    let next = clock.window + 1;
+    Clock {
+        window: if next < tables.windows { next } else { 0 },
+        time: events::later(
+            clock.time,
+            tables::window_length(tables.bytes, clock.window),
+        ),
     }
-    Clock { window: 0, time }
 }
 
 // A partition's call: in a mover window nobody's.
 fn call_turn(
-    t: &[u8],
-    lay: Layout,
+    tables: Tables,
     clock: Clock,
     modes: &mut [u8],
-    numbers: &mut [u32],
-    bytes: &mut [u8],
-    event: &[u8],
-    f: Fields,
+    ports: &mut Ports,
+    call: Call,
 ) -> Answer
-    requires ready { Ready t.now lay clock modes.old numbers.old bytes.old }
-    requires event_len { (length event.now ≡ 80) × (decode event.now ≡ call (call_of f)) }
-    ensures { Answers t.now event.now clock modes.old numbers.old bytes.old result clock modes.new numbers.new bytes.new }
+    requires ready { Ready tables.bytes.now clock modes.old ports.old.numbers ports.old.bytes }
+    requires asked { decode call.event.now ≡ asks.call (call_of call) }
+    ensures { Answers tables.entry.bytes.now call.entry.event.now clock modes.old ports.old.numbers ports.old.bytes result clock modes.new ports.new.numbers ports.new.bytes }
 {
-    let owner = tables::window_partition(t, clock.window);
+    let owner = tables::window_partition(tables.bytes, clock.window);
     if owner == MOVER {
-        return events::refusal(events::CALL_IN_MOVER_WINDOW, NOBODY);
+        return events::refusal(Refusal::CallInMoverWindow, NOBODY);
     }
-    partition_calls::service(t, lay, modes, numbers, bytes, owner, clock.time, event, f)
+    partition_calls::service(tables, modes, ports, owner, clock.time, call)
 }
 
-// A move: in a partition's window, or of no channel, nobody's.
-fn move_turn(
-    t: &[u8],
-    lay: Layout,
-    clock: Clock,
-    modes: &[u8],
-    numbers: &mut [u32],
-    bytes: &mut [u8],
-    event: &[u8],
-    c: u32,
-) -> Answer
-    requires ready { Ready t.now lay clock modes.now numbers.old bytes.old }
-    requires event_value { decode event.now ≡ move c }
-    ensures { Answers t.now event.now clock modes.now numbers.old bytes.old result clock modes.now numbers.new bytes.new }
+// A move: in a partition's window, or of no channel, nobody's. Modes and the rest of the event have no part in it, so it is said for any.
+fn move_turn(tables: Tables, clock: Clock, ports: &mut Ports, c: u32) -> Answer
+    requires held { Held tables.bytes.now ports.old.numbers ports.old.bytes }
+    requires in_window { clock.window < tables.windows }
+    ensures { (modes event : List ℕ) → decode event ≡ asks.move c → Answers tables.entry.bytes.now event clock modes ports.old.numbers ports.old.bytes result clock modes ports.new.numbers ports.new.bytes }
 {
-    let owner = tables::window_partition(t, clock.window);
-    if owner != MOVER {
-        return events::refusal(events::MOVE_IN_PARTITION_WINDOW, NOBODY);
+    if tables::window_partition(tables.bytes, clock.window) != MOVER {
+        return events::refusal(Refusal::MoveInPartitionWindow, NOBODY);
     }
     let channel = c as usize;
-    if lay.channels <= channel {
-        return events::refusal(events::NO_CHANNEL, NOBODY);
+    if tables.channels <= channel {
+        return events::refusal(Refusal::NoChannel, NOBODY);
     }
-    moves::transmit(t, lay, numbers, bytes, clock.time, channel)
+    moves::transmit(tables, ports, clock.time, channel)
 }
 
 // One event: whose it is, its answer, and the clock after it.
 pub fn turn(
-    t: &[u8],
-    lay: Layout,
+    tables: Tables,
     clock: Clock,
     modes: &mut [u8],
-    numbers: &mut [u32],
-    bytes: &mut [u8],
+    ports: &mut Ports,
     event: &[u8],
 ) -> Turned
-    requires ready { Ready t.now lay clock modes.old numbers.old bytes.old }
+    requires ready { Ready tables.bytes.now clock modes.old ports.old.numbers ports.old.bytes }
     requires event_len { length event.now ≡ 80 }
-    ensures { Answers t.now event.now clock modes.old numbers.old bytes.old result.answer result.clock modes.new numbers.new bytes.new }
+    ensures { Answers tables.entry.bytes.now event.now clock modes.old ports.old.numbers ports.old.bytes result.answer result.clock modes.new ports.new.numbers ports.new.bytes }
 {
-    let asked = events::decode(event);
-    match asked {
+    match events::decode(event) {
         Asked::Clock => {
-            let next = tick(t, lay, clock);
+            let next = tick(tables, clock);
             Turned {
                 answer: events::told_number(SCHEDULER, next.time),
                 clock: next,
             }
         }
-        Asked::Call(f) => Turned {
-            answer: call_turn(t, lay, clock, modes, numbers, bytes, event, f),
+        Asked::Call(call) => Turned {
+            answer: call_turn(tables, clock, modes, ports, call),
             clock,
         },
         Asked::Move(c) => Turned {
-            answer: move_turn(t, lay, clock, modes, numbers, bytes, event, c),
+            answer: move_turn(tables, clock, ports, c),
             clock,
         },
         Asked::Unknown => Turned {
-            answer: events::refusal(events::UNKNOWN_CODE, NOBODY),
+            answer: events::refusal(Refusal::UnknownCode, NOBODY),
             clock,
         },
     }

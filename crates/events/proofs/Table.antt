@@ -1,4 +1,4 @@
--- The code's constant table is the model's, row by row.
+-- The code's constant table is the model's, row by row, and the cases of the decoder.
 -- Assumes nothing.
 use Rattle.std.proofs.Common.{◌≡◌, ℕ, zero, suc, ◌-◌, ◌<◌, true, List, [], ◌∷◌, map, length, get_or, refl, arith, eq-eqb, ne_eqb}
 use Rattle.model.specs.Words.{byte, word16}
@@ -6,6 +6,7 @@ use Rattle.model.specs.Events.{known, need, decode, call, clock_step, move}
 use Rattle.model.specs.Events as model
 use Rattle.model.proofs.Tests.{between-low, between-high}
 use Rattle.events.specs.declared.codes.CodeRow.{CodeRow}
+use Rattle.events.specs.declared.codes.TheConstants.{CODES}
 use Rattle.events.specs.Shown.{need_of}
 
 -- a row of a table is shown by that row of the shown table, whatever stands past its end
@@ -14,22 +15,8 @@ row-shown [] i d d' h = absurd (omega arith)
 row-shown (r ∷ rows) zero d d' h = refl
 row-shown (r ∷ rows) (suc i) d d' h = row-shown rows i d d' (omega arith)
 
-abbrev row : ℕ → ℕ → ℕ → CodeRow
-row m d c = record { mode = m; direction = d; caller = c }
-
-abbrev pub table : List CodeRow
-table =
-    row 0 2 0 ∷ row 0 0 0 ∷ row 0 1 0 ∷ row 0 2 0 ∷ row 0 2 0 ∷ row 1 2 0 ∷ row 1 0 0 ∷ row 1 1 0 ∷ row 1 2 0 ∷ row 1 2 0 ∷ row 1 1 0 ∷ row 2 2 0
-    ∷ row 2 2 1 ∷ row 2 2 2 ∷ []
-
-pub low : (code : ℕ) → known code ≡ true → 0 < code
-low code k = between-low 1 14 code k
-
-pub inside : (code : ℕ) → known code ≡ true → code - 1 < 14
-inside code k = omega (arith, between-low 1 14 code k, between-high 1 14 code k)
-
-pub table_is : (code : ℕ) (d : CodeRow) → known code ≡ true → need_of (get_or table (code - 1) d) ≡ need code
-table_is code d k = row-shown table (code - 1) d _ (inside code k)
+pub table_is : (code : ℕ) (d : CodeRow) → known code ≡ true → need_of (get_or CODES (code - 1) d) ≡ need code
+table_is code d k = row-shown CODES (code - 1) d _ (omega (arith, between-low 1 14 code k, between-high 1 14 code k))
 
 -- the cases of the decoder, from the tests of the code's row
 module _ (e : model.Event) (k : known (byte e 0) ≡ true) where
@@ -37,9 +24,9 @@ module _ (e : model.Event) (k : known (byte e 0) ≡ true) where
   unfolding decode
   decode_call c = simp (k, eq-eqb (need (byte e 0)).caller 0 c)
 
-  pub decode-clock : ((need (byte e 0)).caller ≡ 0 → ⊥) → (need (byte e 0)).caller ≡ 1 → decode e ≡ clock_step
+  pub decode-clock : (need (byte e 0)).caller ≡ 1 → decode e ≡ clock_step
   unfolding decode
-  decode-clock n c = simp (k, ne_eqb (need (byte e 0)).caller 0 n, eq-eqb (need (byte e 0)).caller 1 c)
+  decode-clock c = simp (k, ne_eqb (need (byte e 0)).caller 0 (λ n. absurd (omega (arith, c, n))), eq-eqb (need (byte e 0)).caller 1 c)
 
   pub decode-move : ((need (byte e 0)).caller ≡ 0 → ⊥) → ((need (byte e 0)).caller ≡ 1 → ⊥) → decode e ≡ move (word16 e 2)
   unfolding decode

@@ -12,12 +12,12 @@ pub struct Clock {
 pub fn later(time: u32, length: u32) -> u32
     ensures { result ≡ wrap (time + length) }
 {
-    std::num::wrapping_add_u32(time, length)
+    time.wrapping_add(length)
 }
 
 // Time minus arrival, modulo 2^32.
 pub fn age(time: u32, arrival: u32) -> u32
     ensures { result ≡ age time arrival }
 {
-    std::num::wrapping_sub_u32(time, arrival)
+    time.wrapping_sub(arrival)
 }

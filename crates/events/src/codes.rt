@@ -1,26 +1,10 @@
-// The constant table of the codes, and the decoder of events.
-ghost use Rattle.std.specs.Prelude.{◌≡◌, true, ◌||◌, length, ◌==◌};
-ghost use Rattle.model.specs.Events.{known, need, either, decode};
-ghost use Rattle.events.specs.Shown.{need_of, asked_of};
+// The codes, their constant table, and the decoder of events.
+ghost use Rattle.std.specs.Prelude.{◌≡◌, ◌||◌, length, ◌==◌};
+ghost use Rattle.model.specs.Events.{need, either, decode};
+ghost use Rattle.events.specs.Shown.{number_of, Decodes, need_of, asked_of, IsOf};
 
+use super::calls::{Asked, Call};
 use tables::{DESTINATION, QUEUING, SAMPLING, SOURCE, word16, word32};
-
-// What a code needs: the port's mode (0 sampling, 1 queuing, 2 either), its direction (0 source, 1 destination, 2 either),
-// and who may do it (0 a partition, 1 the scheduler, 2 a mover).
-#[derive(Clone, Copy)]
-pub struct CodeRow {
-    pub mode: u8,
-    pub direction: u8,
-    pub caller: u8,
-}
-
-pub const EITHER: u8 = 2;
-
-pub const BY_PARTITION: u8 = 0;
-
-pub const BY_SCHEDULER: u8 = 1;
-
-pub const BY_MOVER: u8 = 2;
 
 // An event's size in bytes, and an answer's.
 pub const EVENT_SIZE: usize = 80;
@@ -38,7 +22,8 @@ pub const SIZE_AT: usize = 8;
 
 pub const BODY_AT: usize = 16;
 
-// Partition modes.
+// Partition modes. They stay bytes: an event and a state may hold any, and what may not change is that `set_mode` and the test of a state
+// answer those above 3 too.
 pub const IDLE: u8 = 0;
 
 pub const COLD_START: u8 = 1;
@@ -47,7 +32,8 @@ pub const WARM_START: u8 = 2;
 
 pub const NORMAL: u8 = 3;
 
-// Doers other than the partitions: the scheduler, channel 0, nobody.
+// Doers other than the partitions: the scheduler, channel 0, nobody. They stay bytes: what may not change is that `refusal` and `done`
+// answer for any.
 pub const SCHEDULER: u8 = 32;
 
 pub const FIRST_CHANNEL: u8 = 64;
@@ -55,190 +41,199 @@ pub const FIRST_CHANNEL: u8 = 64;
 pub const NOBODY: u8 = 255;
 
 // The codes, by 01's names.
-pub const CREATE_SAMPLING_PORT: u8 = 1;
+#[derive(Clone, Copy, Debug, PartialEq, Eq)]
+pub enum Code {
+    CreateSamplingPort = 1,
+    WriteSamplingMessage = 2,
+    ReadSamplingMessage = 3,
+    GetSamplingPortId = 4,
+    GetSamplingPortStatus = 5,
+    CreateQueuingPort = 6,
+    SendQueuingMessage = 7,
+    ReceiveQueuingMessage = 8,
+    GetQueuingPortId = 9,
+    GetQueuingPortStatus = 10,
+    ClearQueuingPort = 11,
+    SetPartitionMode = 12,
+    Schedule = 13,
+    Transmit = 14,
+}
 
-pub const WRITE_SAMPLING_MESSAGE: u8 = 2;
+// A byte that is no code.
+#[derive(Clone, Copy, Debug, PartialEq, Eq)]
+pub struct NoSuchCode(pub u8);
 
-pub const READ_SAMPLING_MESSAGE: u8 = 3;
+impl TryFrom<u8> for Code {
+    type Error = NoSuchCode;
 
-pub const GET_SAMPLING_PORT_ID: u8 = 4;
+    ghost try_from_gives = { Decodes };
 
-pub const GET_SAMPLING_PORT_STATUS: u8 = 5;
+    // the numbers stand here once more, since no `as` leads from a number to an enum; `Decodes` ties them to the codes
+    fn try_from(code: u8) -> Result<Self, NoSuchCode> {
+        match code {
+            1 => Ok(Code::CreateSamplingPort),
+            2 => Ok(Code::WriteSamplingMessage),
+            3 => Ok(Code::ReadSamplingMessage),
+            4 => Ok(Code::GetSamplingPortId),
+            5 => Ok(Code::GetSamplingPortStatus),
+            6 => Ok(Code::CreateQueuingPort),
+            7 => Ok(Code::SendQueuingMessage),
+            8 => Ok(Code::ReceiveQueuingMessage),
+            9 => Ok(Code::GetQueuingPortId),
+            10 => Ok(Code::GetQueuingPortStatus),
+            11 => Ok(Code::ClearQueuingPort),
+            12 => Ok(Code::SetPartitionMode),
+            13 => Ok(Code::Schedule),
+            14 => Ok(Code::Transmit),
+            _ => Err(NoSuchCode(code)),
+        }
+    }
+}
 
-pub const CREATE_QUEUING_PORT: u8 = 6;
+// Who may do what a code asks for.
+#[derive(Clone, Copy, Debug, PartialEq, Eq)]
+pub enum Caller {
+    Partition,
+    Scheduler,
+    Mover,
+}
 
-pub const SEND_QUEUING_MESSAGE: u8 = 7;
+// What a code needs: the port's mode (0 sampling, 1 queuing, 2 either), its direction (0 source, 1 destination, 2 either), and who may do
+// it. Mode and direction stay numbers: what may not change is that `is_mode` and `look_up` take any number for a mode, and that a port's
+// row holds any byte for a direction.
+#[derive(Clone, Copy)]
+pub struct CodeRow {
+    pub mode: u8,
+    pub direction: u8,
+    pub caller: Caller,
+}
 
-pub const RECEIVE_QUEUING_MESSAGE: u8 = 8;
+pub const EITHER: u8 = 2;
 
-pub const GET_QUEUING_PORT_ID: u8 = 9;
-
-pub const GET_QUEUING_PORT_STATUS: u8 = 10;
-
-pub const CLEAR_QUEUING_PORT: u8 = 11;
-
-pub const SET_PARTITION_MODE: u8 = 12;
-
-pub const SCHEDULE: u8 = 13;
-
-pub const TRANSMIT: u8 = 14;
-
-// The one table: a row for each code, from 1 on.
+// The one table: a row for each code, in their order.
 const CODES: [CodeRow; 14] = [
     // 1 CREATE_SAMPLING_PORT
     CodeRow {
         mode: SAMPLING,
         direction: EITHER,
-        caller: BY_PARTITION,
+        caller: Caller::Partition,
     },
     // 2 WRITE_SAMPLING_MESSAGE
     CodeRow {
         mode: SAMPLING,
         direction: SOURCE,
-        caller: BY_PARTITION,
+        caller: Caller::Partition,
     },
     // 3 READ_SAMPLING_MESSAGE
     CodeRow {
         mode: SAMPLING,
         direction: DESTINATION,
-        caller: BY_PARTITION,
+        caller: Caller::Partition,
     },
     // 4 GET_SAMPLING_PORT_ID
     CodeRow {
         mode: SAMPLING,
         direction: EITHER,
-        caller: BY_PARTITION,
+        caller: Caller::Partition,
     },
     // 5 GET_SAMPLING_PORT_STATUS
     CodeRow {
         mode: SAMPLING,
         direction: EITHER,
-        caller: BY_PARTITION,
+        caller: Caller::Partition,
     },
     // 6 CREATE_QUEUING_PORT
     CodeRow {
         mode: QUEUING,
         direction: EITHER,
-        caller: BY_PARTITION,
+        caller: Caller::Partition,
     },
     // 7 SEND_QUEUING_MESSAGE
     CodeRow {
         mode: QUEUING,
         direction: SOURCE,
-        caller: BY_PARTITION,
+        caller: Caller::Partition,
     },
     // 8 RECEIVE_QUEUING_MESSAGE
     CodeRow {
         mode: QUEUING,
         direction: DESTINATION,
-        caller: BY_PARTITION,
+        caller: Caller::Partition,
     },
     // 9 GET_QUEUING_PORT_ID
     CodeRow {
         mode: QUEUING,
         direction: EITHER,
-        caller: BY_PARTITION,
+        caller: Caller::Partition,
     },
     // 10 GET_QUEUING_PORT_STATUS
     CodeRow {
         mode: QUEUING,
         direction: EITHER,
-        caller: BY_PARTITION,
+        caller: Caller::Partition,
     },
     // 11 CLEAR_QUEUING_PORT
     CodeRow {
         mode: QUEUING,
         direction: DESTINATION,
-        caller: BY_PARTITION,
+        caller: Caller::Partition,
     },
     // 12 SET_PARTITION_MODE
     CodeRow {
         mode: EITHER,
         direction: EITHER,
-        caller: BY_PARTITION,
+        caller: Caller::Partition,
     },
     // 13 SCHEDULE
     CodeRow {
         mode: EITHER,
         direction: EITHER,
-        caller: BY_SCHEDULER,
+        caller: Caller::Scheduler,
     },
     // 14 TRANSMIT
     CodeRow {
         mode: EITHER,
         direction: EITHER,
-        caller: BY_MOVER,
+        caller: Caller::Mover,
     },
 ];
 
-// The row of a known code.
-pub fn need(code: u8) -> CodeRow
-    requires { known code ≡ true }
-    ensures { need_of result ≡ need code }
+// The code's row.
+pub fn need(code: Code) -> CodeRow
+    ensures { need_of result ≡ need (number_of code) }
 {
-    let at = code as usize - 1;
-    CODES[at]
+    CODES[code as usize - 1]
 }
 
 // A port of this direction will do for the code.
-pub fn directed(code: u8, direction: u8) -> bool
-    requires { known code ≡ true }
-    ensures { result ≡ ((need code).direction == either || direction == (need code).direction) }
+pub fn directed(code: Code, direction: u8) -> bool
+    ensures { result ≡ ((need (number_of code)).direction == either || direction == (need (number_of code)).direction) }
 {
     let row = need(code);
     row.direction == EITHER || direction == row.direction
 }
 
-// The fields of a call.
-#[derive(Clone, Copy)]
-pub struct Fields {
-    pub code: u8,
-    // byte 1: direction or new mode
-    pub choice: u8,
-    // 2-3: port id
-    pub id: u32,
-    // 4-7: refresh or depth
-    pub number: u32,
-    // 8-11: message length or largest message
-    pub size: u32,
-}
-
-// An event is a clock step, a partition's call, a move of a channel, or a record of no known code.
-#[derive(Clone, Copy)]
-pub enum Asked {
-    Clock,
-    Call(Fields),
-    Move(u32),
-    Unknown,
-}
-
-pub fn is_known(code: u8) -> bool
-    ensures { result ≡ known code }
-{
-    1 <= code && code as usize <= CODES.len()
-}
-
 // What an event asks for. Past this a step reads no byte of the event but name and message.
+// An event is a part of a list, and an answer's place one of another: slices whose length is asked for, since to make arrays of them takes a
+// `try_into` and an `unwrap` at each place.
 pub fn decode(event: &[u8]) -> Asked
     requires { length event.now ≡ 80 }
-    ensures { asked_of result ≡ decode event.now }
+    ensures asked { asked_of result ≡ decode event.now }
+    ensures event { IsOf event.now result }
 {
-    let code = event[CODE_AT];
-    if !is_known(code) {
+    let Ok(code) = Code::try_from(event[CODE_AT]) else {
         return Asked::Unknown;
-    }
-    let row = need(code);
-    if row.caller == BY_PARTITION {
-        return Asked::Call(Fields {
+    };
+    match need(code).caller {
+        Caller::Partition => Asked::Call(Call {
             code,
             choice: event[CHOICE_AT],
             id: word16(event, ID_AT),
             number: word32(event, NUMBER_AT),
             size: word32(event, SIZE_AT),
-        });
+            event,
+        }),
+        Caller::Scheduler => Asked::Clock,
+        Caller::Mover => Asked::Move(word16(event, ID_AT)),
     }
-    if row.caller == BY_SCHEDULER {
-        return Asked::Clock;
-    }
-    Asked::Move(word16(event, ID_AT))
 }

@@ -1,6 +1,6 @@
 -- The exported calls by their cases: what the kernel gave, and the size of the buffer.
 -- Assumes nothing.
-use Rattle.std.specs.Prelude.{if◌then◌else◌}
+use Rattle.std.specs.Prelude.{Result}
 use Prim.Native.Nat.{ℕ}
 use mathlib.Core.Path.{◌≡◌, ◌∙◌, ap₂, subst}
 use mathlib.Core.Bool.{Bool, true, false, not}
@@ -14,8 +14,8 @@ use Rattle.model.specs.Load.{accepted, refused, load_of, accepts}
 use Rattle.model.specs.Run.{list_fault}
 use Rattle.model.proofs.Tests.{by-test}
 use Rattle.states.specs.declared.State.{State}
-use Rattle.states.specs.Shown.{at_load, all_zero}
-use Rattle.kernel.specs.declared.Ran.{Ran}
+use Rattle.states.specs.Shown.{at_load}
+use Rattle.kernel.specs.declared.refusal.ListRefusal.{ListRefusal}
 use Rattle.states.specs.Shown.{is_sound}
 use Rattle.kernel.specs.Meets.{answers_after, ListMeets}
 use Rattle.state_buffer.specs.Layout.{state_of, bytes_of}
@@ -34,10 +34,6 @@ module _ (t b : List ℕ) where
   pub load-done : load_of t ≡ accepted → is_sized b ≡ true → {b' : List ℕ} → b' ≡ bytes_of at_load → HostLoad t b 0 b'
   unfolding load_code accepts
   load-done e s laid = record { code = rw (e, s); state = laid ∙ (rw (e, s)) }
-
-  pub at_load_lem : load_of t ≡ accepted → {x : State} → x ≡ (if accepts t then at_load else all_zero) → x ≡ at_load
-  unfolding accepts
-  at_load_lem e h = h ∙ (rw e)
 
   -- test 29
   pub unsound : is_sized b ≡ false → buffer_sound t b ≡ false
@@ -63,7 +59,7 @@ module _ (t b : List ℕ) where
         record { refusal = e ∙ (rw (unsound s)); state = rw (unsound s, no); answered = rw (unsound s, no) }
 
     -- with a buffer of the right size it is the kernel's call, of the state that was read from it
-    pub sized : is_sized b ≡ true → {st : State} → st ≡ state_of b → {ran : Ran} {r : ℕ} {b' a' : List ℕ} → ListMeets (list_fault whole events a (is_sound t st)) t st events a ran a' → HandedBack ran events b r b'
+    pub sized : is_sized b ≡ true → {st : State} → st ≡ state_of b → {ran : Result State ListRefusal} {r : ℕ} {b' a' : List ℕ} → ListMeets (list_fault whole events a (is_sound t st)) t st events a ran a' → HandedBack ran events b r b'
         → HostList (list_fault whole events a (buffer_sound t b)) t b events a r b' a'
     sized s {st} e {ran} {a' = a'} given h =
         let m : ListMeets (list_fault whole events a (is_sound t (state_of b))) t (state_of b) events a ran a' =

@@ -1,6 +1,7 @@
 -- Any two outcomes that meet the contract of an exported function, for the same bytes, are equal; and with a buffer of a state's size the
 -- outcome is the kernel's, laid into the buffer.
 -- Assumes nothing.
+use Rattle.std.specs.Prelude.{Result}
 use Prim.Native.Nat.{ℕ, ◌%◌}
 use mathlib.Core.Path.{◌≡◌, refl, sym, ◌∙◌}
 use mathlib.Core.Bool.{Bool, true}
@@ -9,8 +10,10 @@ use lib.Dec.{eqb}
 use lib.ListN.{length}
 use Rattle.model.specs.Events.{event_size}
 use Rattle.model.specs.Run.{list_fault}
-use Rattle.kernel.specs.declared.Ran.{Ran}
+use Rattle.states.specs.declared.State.{State}
 use Rattle.states.specs.Shown.{is_sound}
+use Rattle.kernel.specs.declared.refusal.ListRefusal.{ListRefusal}
+use Rattle.kernel.specs.Shown.{refusal_of, state_kept}
 use Rattle.kernel.specs.Meets.{ListMeets, RunMeets, StepMeets}
 use Rattle.state_buffer.specs.Layout.{state_of}
 use Rattle.host.specs.Exports.{is_sized, buffer_sound, buffer_or, HostLoad, HostRecord, HostTest, HostList, HostRun, HostStep, HostStart, HostLength}
@@ -49,16 +52,16 @@ length-unique a n r r' p q = p ∙ sym q
 
 -- the kernel's outcome on the state in the buffer, for any outcome of the exported call
 module _ (t b : List ℕ) (sized : is_sized b ≡ true) where
-  as-kernel : (whole : Bool) (events a : List ℕ) {ran : Ran} {a' : List ℕ} → ListMeets (list_fault whole events a (is_sound t (state_of b))) t (state_of b) events a ran a'
-      → {r : ℕ} {b' a'' : List ℕ} → HostList (list_fault whole events a (buffer_sound t b)) t b events a r b' a'' → Same r b' a'' ran.refusal (buffer_or ran.refusal events b ran.state) a'
+  as-kernel : (whole : Bool) (events a : List ℕ) {ran : Result State ListRefusal} {a' : List ℕ} → ListMeets (list_fault whole events a (is_sound t (state_of b))) t (state_of b) events a ran a'
+      → {r : ℕ} {b' a'' : List ℕ} → HostList (list_fault whole events a (buffer_sound t b)) t b events a r b' a'' → Same r b' a'' (refusal_of ran) (buffer_or (refusal_of ran) events b (state_kept (state_of b) ran)) a'
   as-kernel whole events a {ran} {a'} m h =
       list-unique _ t b events a _ _ _ _ _ _ h
       (Calls.sized t b whole events a sized refl m (record { refusal = refl; state = refl }))
 
-  pub run-is-kernel : (events a : List ℕ) {ran : Ran} {a' : List ℕ} → RunMeets t (state_of b) events a ran a'
-      → {r : ℕ} {b' a'' : List ℕ} → HostRun t b events a r b' a'' → Same r b' a'' ran.refusal (buffer_or ran.refusal events b ran.state) a'
+  pub run-is-kernel : (events a : List ℕ) {ran : Result State ListRefusal} {a' : List ℕ} → RunMeets t (state_of b) events a ran a'
+      → {r : ℕ} {b' a'' : List ℕ} → HostRun t b events a r b' a'' → Same r b' a'' (refusal_of ran) (buffer_or (refusal_of ran) events b (state_kept (state_of b) ran)) a'
   run-is-kernel events a = as-kernel (eqb (length events % event_size) 0) events a
 
-  pub step-is-kernel : (event a : List ℕ) {ran : Ran} {a' : List ℕ} → StepMeets t (state_of b) event a ran a'
-      → {r : ℕ} {b' a'' : List ℕ} → HostStep t b event a r b' a'' → Same r b' a'' ran.refusal (buffer_or ran.refusal event b ran.state) a'
+  pub step-is-kernel : (event a : List ℕ) {ran : Result State ListRefusal} {a' : List ℕ} → StepMeets t (state_of b) event a ran a'
+      → {r : ℕ} {b' a'' : List ℕ} → HostStep t b event a r b' a'' → Same r b' a'' (refusal_of ran) (buffer_or (refusal_of ran) event b (state_kept (state_of b) ran)) a'
   step-is-kernel event a = as-kernel (eqb (length event) event_size) event a

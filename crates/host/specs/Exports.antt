@@ -1,13 +1,14 @@
 -- The contracts of the exported functions: the kernel's, with the state in a buffer. Each settles the result and every lent byte.
 -- Assumes nothing.
-use Rattle.std.specs.Prelude.{if◌then◌else◌, ℕ, ◌%◌, ◌≡◌, Bool, ◌&&◌, not, List, eqb, length}
+use Rattle.std.specs.Prelude.{if◌then◌else◌, ℕ, ◌%◌, ◌≡◌, Bool, ◌&&◌, not, List, eqb, length, Result}
 use Rattle.model.specs.Load.{Verdict, accepted, refused, load_of, accepts}
 use Rattle.model.specs.Events.{event_size}
 use Rattle.model.specs.Answers.{stretch}
 use Rattle.model.specs.Run.{list_fault}
 use Rattle.states.specs.declared.State.{State}
 use Rattle.states.specs.Shown.{at_load}
-use Rattle.kernel.specs.declared.Ran.{Ran}
+use Rattle.kernel.specs.declared.refusal.ListRefusal.{ListRefusal}
+use Rattle.kernel.specs.Shown.{refusal_of, state_kept}
 use Rattle.states.specs.Shown.{is_sound}
 use Rattle.kernel.specs.Meets.{state_after, answers_after}
 use Rattle.state_buffer.specs.Layout.{state_size, state_of, bytes_of}
@@ -66,6 +67,6 @@ abbrev pub HostLength : List ℕ → ℕ → ℕ → Type 0
 HostLength a n r = r ≡ (stretch a n).size
 
 -- what the kernel gave for a list, handed back in the buffer
-pub record HandedBack (ran : Ran) (events b : List ℕ) (r : ℕ) (b' : List ℕ) : Type 0 where
-  pub refusal : r ≡ ran.refusal
-  pub state : b' ≡ buffer_or ran.refusal events b ran.state
+pub record HandedBack (ran : Result State ListRefusal) (events b : List ℕ) (r : ℕ) (b' : List ℕ) : Type 0 where
+  pub refusal : r ≡ refusal_of ran
+  pub state : b' ≡ buffer_or (refusal_of ran) events b (state_kept (state_of b) ran)

@@ -1,8 +1,8 @@
 -- Of the states that the public calls give: none is refused 29, and each shows a state that the model reaches.
 -- Assumes nothing.
-use Rattle.std.specs.Prelude.{if◌then◌else◌}
+use Rattle.std.specs.Prelude.{Result, Ok}
 use Prim.Native.Nat.{ℕ, ◌%◌, ◌<◌}
-use mathlib.Core.Path.{◌≡◌, sym, ◌∙◌, ap, subst}
+use mathlib.Core.Path.{◌≡◌, refl, sym, ◌∙◌, ap, subst}
 use mathlib.Core.Bool.{Bool, true, ◌&&◌, not}
 use mathlib.Core.List.{List, [], ◌++◌}
 use native.Mathlib.Omega.{arith}
@@ -27,13 +27,15 @@ use Rattle.ports.specs.Held.{ports_of}
 use Rattle.service_contracts.proofs.Contents.{fits-at}
 use Rattle.states.specs.declared.State.{State}
 use Rattle.state_test.specs.Tested.{indexed}
-use Rattle.states.specs.Shown.{shown_state, state_fits, at_load, all_zero}
+use Rattle.states.specs.Shown.{shown_state, state_fits}
 use Rattle.settled_form.specs.Settled.{settled_numbers, settled_bytes, Storable}
 use Rattle.states.proofs.Settled.{settled-shows, settled-indexed}
 use Rattle.states.proofs.Load.{load-shown, load_fits}
-use Rattle.kernel.specs.declared.Ran.{Ran}
+use Rattle.loader.proofs.Accepts.{is_ok-accepts}
 use Rattle.states.specs.Shown.{is_sound, settled_as}
-use Rattle.kernel.specs.Meets.{state_after, answers_after, ListMeets}
+use Rattle.kernel.specs.declared.refusal.ListRefusal.{ListRefusal}
+use Rattle.kernel.specs.Shown.{refusal_of, state_kept}
+use Rattle.kernel.specs.Meets.{state_after, answers_after, LoadMeets, ListMeets}
 use Rattle.kernel.specs.Given.{Given, by_load, by_step, by_run}
 
 -- a port in range can be stored
@@ -96,21 +98,23 @@ module _ (t : Tables) (st : State) (sound : is_sound t st ≡ true) (events : Li
       (λ e. sound)
 
 -- a call that is not refused leaves that state
-left_by : {fault : ℕ} {t : List ℕ} {st : State} {events buffer : List ℕ} {r : Ran} {buffer' : List ℕ} → ListMeets fault t st events buffer r buffer' → r.refusal ≡ 0 → r.state ≡ state_after 0 t st events
+left_by : {fault : ℕ} {t : List ℕ} {st : State} {events buffer : List ℕ} {r : Result State ListRefusal} {buffer' : List ℕ} → ListMeets fault t st events buffer r buffer' → refusal_of r ≡ 0
+    → state_kept st r ≡ state_after 0 t st events
 left_by {fault} {t} {st} {events} m z = m.state ∙ ap (λ f. state_after f t st events) (sym m.refusal ∙ z)
 
-load-state : (t : List ℕ) → accepts t ≡ true → {x : State} → x ≡ (if accepts t then at_load else all_zero) → x ≡ at_load
-load-state t ok e = e ∙ (rw ok)
+-- a load that gives a state has accepted the tables
+pub load-accepts : {t : List ℕ} {st : State} → LoadMeets t (Ok st) → accepts t ≡ true
+load-accepts {t} {st} m = sym (is_ok-accepts t (Ok st) m.verdict)
 
-load-sound : (t : List ℕ) → accepts t ≡ true → {x : State} → x ≡ (if accepts t then at_load else all_zero) → is_sound t x ≡ true
+load-sound : {t : List ℕ} {st : State} → LoadMeets t (Ok st) → is_sound t st ≡ true
 unfolding is_sound
-load-sound t ok e = subst (λ x. (accepts t && state_fits t x) ≡ true) (sym (load-state t ok e)) (both ok (load_fits t ok))
+load-sound {t} m = let ok = load-accepts m in subst (λ x. (accepts t && state_fits t x) ≡ true) (sym m.state) (both ok (load_fits t ok))
 
 -- no state that the public calls give is refused 29
 pub given-sound : (t : List ℕ) (st : State) → Given t st → is_sound t st ≡ true
-given-sound t st (by_load m ok) = load-sound t ok m.state
-given-sound t st (by_step {st = s} event buffer buffer' g m z) = subst (λ x. is_sound t x ≡ true) (sym (left_by m z)) (list-sound t s (given-sound t s g) event)
-given-sound t st (by_run {st = s} events buffer buffer' g m z) = subst (λ x. is_sound t x ≡ true) (sym (left_by m z)) (list-sound t s (given-sound t s g) events)
+given-sound t st (by_load m) = load-sound m
+given-sound t st (by_step {st = s} event buffer buffer' g m) = subst (λ x. is_sound t x ≡ true) (sym (left_by m refl)) (list-sound t s (given-sound t s g) event)
+given-sound t st (by_run {st = s} events buffer buffer' g m) = subst (λ x. is_sound t x ≡ true) (sym (left_by m refl)) (list-sound t s (given-sound t s g) events)
 
 -- the model's call on the list is not refused either
 sound-model : (t : Tables) (st : State) → is_sound t st ≡ true → Model.is_sound t (shown_state t st) ≡ true
@@ -136,26 +140,27 @@ module _ (t : Tables) (st : State) (sound : is_sound t st ≡ true) (whole : Boo
 -- each state that the public calls give shows a state that the model reaches
 pub given-reached : (t : List ℕ) (st : State) → Given t st → Reached t (shown_state t st)
 unfolding Model.run Model.step
-given-reached t st (by_load m ok) = subst (Reached t) (sym (ap (shown_state t) (load-state t ok m.state) ∙ load-shown t)) (Model.by_load ok)
-given-reached t st (by_step {st = s} {r = r} event buffer buffer' g m z) =
+given-reached t st (by_load m) = subst (Reached t) (sym (ap (shown_state t) m.state ∙ load-shown t)) (Model.by_load (load-accepts m))
+given-reached t st (by_step {st = s} event buffer buffer' g m) =
     let sound = given-sound t s g in
-    let fault = same-fault t s sound (eqb (length event) event_size) event buffer (sym m.refusal ∙ z) in
+    let fault = same-fault t s sound (eqb (length event) event_size) event buffer (sym m.refusal) in
     subst (Reached t)
-    (ran-state _ t (shown_state t s) event buffer fault ∙ sym (ap (shown_state t) (left_by m z) ∙ list-shown t s sound event))
+    (ran-state _ t (shown_state t s) event buffer fault ∙ sym (ap (shown_state t) (left_by m refl) ∙ list-shown t s sound event))
     (Model.by_step event buffer (ran-refusal _ t (shown_state t s) event buffer fault) (given-reached t s g))
-given-reached t st (by_run {st = s} {r = r} events buffer buffer' g m z) =
+given-reached t st (by_run {st = s} events buffer buffer' g m) =
     let sound = given-sound t s g in
-    let fault = same-fault t s sound (eqb (length events % event_size) 0) events buffer (sym m.refusal ∙ z) in
+    let fault = same-fault t s sound (eqb (length events % event_size) 0) events buffer (sym m.refusal) in
     subst (Reached t)
-    (ran-state _ t (shown_state t s) events buffer fault ∙ sym (ap (shown_state t) (left_by m z) ∙ list-shown t s sound events))
+    (ran-state _ t (shown_state t s) events buffer fault ∙ sym (ap (shown_state t) (left_by m refl) ∙ list-shown t s sound events))
     (Model.by_run events buffer (ran-refusal _ t (shown_state t s) events buffer fault) (given-reached t s g))
 
 -- what a run that is not refused leaves, and what stands in its answers
-pub run-leaves : {t : List ℕ} {st : State} {events buffer : List ℕ} {r : Ran} {buffer' : List ℕ} {fault : ℕ} → is_sound t st ≡ true → ListMeets fault t st events buffer r buffer' → r.refusal ≡ 0
-    → shown_state t r.state ≡ after_all t (shown_state t st) (events_of events)
+pub run-leaves : {t : List ℕ} {st : State} {events buffer : List ℕ} {r : Result State ListRefusal} {buffer' : List ℕ} {fault : ℕ} → is_sound t st ≡ true → ListMeets fault t st events buffer r buffer'
+    → refusal_of r ≡ 0
+    → shown_state t (state_kept st r) ≡ after_all t (shown_state t st) (events_of events)
 run-leaves {t} {st} {events} sound m z = ap (shown_state t) (left_by m z) ∙ list-shown t st sound events
 
-pub run-answers : {t : List ℕ} {st : State} {events buffer : List ℕ} {r : Ran} {buffer' : List ℕ} {fault : ℕ} → ListMeets fault t st events buffer r buffer' → r.refusal ≡ 0
+pub run-answers : {t : List ℕ} {st : State} {events buffer : List ℕ} {r : Result State ListRefusal} {buffer' : List ℕ} {fault : ℕ} → ListMeets fault t st events buffer r buffer' → refusal_of r ≡ 0
     → buffer' ≡ joined (answers t (shown_state t st) (events_of events)) ++ drop (length events) buffer
 unfolding answers_after
 run-answers {t} {st} {events} {buffer} m z = m.answered ∙ ap (λ f. answers_after f t st events buffer) (sym m.refusal ∙ z)

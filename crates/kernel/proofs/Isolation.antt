@@ -1,6 +1,6 @@
 -- Demand 3, carried to the code: two runs of the public call, from states that the public calls gave, whose outcomes meet the contract.
 -- Assumes nothing.
-use Rattle.std.specs.Prelude.{if◌then◌else◌}
+use Rattle.std.specs.Prelude.{if◌then◌else◌, Ok}
 use Prim.Native.Nat.{ℕ, ◌<◌}
 use mathlib.Core.Path.{◌≡◌, refl, sym, ◌∙◌, ap, ap₂}
 use mathlib.Core.Bool.{true}
@@ -19,7 +19,6 @@ use Rattle.model.proofs.Lists.{answer-length}
 use Rattle.model.proofs.NonInterference.{noninterference}
 use Rattle.states.specs.declared.State.{State}
 use Rattle.states.specs.Shown.{shown_state}
-use Rattle.kernel.specs.declared.Ran.{Ran}
 use Rattle.kernel.specs.Meets.{RunMeets}
 use Rattle.kernel.specs.Given.{Given, records_to}
 use Rattle.kernel.proofs.GivenStates.{given-sound, given-reached, run-leaves, run-answers}
@@ -36,27 +35,27 @@ records-are t p s (e ∷ es) rest =
     (ap (λ l. records_to t p (after t s e) es l) (ap (drop 80) split ∙ drop_at a (later ++ rest) 80 (answer-length t s e)) ∙ records-are t p (after t s e) es rest)
 
 -- what the partition sees of a run, bytes and all: the records that answer its calls, and what it holds afterwards
-pub record SameBytes (t : List ℕ) (p : ℕ) (st : State) (events : List ℕ) (r : Ran) (buffer : List ℕ) (st' : State) (events' : List ℕ) (r' : Ran) (buffer' : List ℕ) : Type 0 where
+pub record SameBytes (t : List ℕ) (p : ℕ) (st : State) (events : List ℕ) (left : State) (buffer : List ℕ) (st' : State) (events' : List ℕ) (left' : State) (buffer' : List ℕ) : Type 0 where
   pub answered : records_to t p (shown_state t st) (events_of events) buffer ≡ records_to t p (shown_state t st') (events_of events') buffer'
-  pub holding : holds t (shown_state t r.state) p ≡ holds t (shown_state t r'.state) p
+  pub holding : holds t (shown_state t left) p ≡ holds t (shown_state t left') p
 
 pub isolation :
     (t : List ℕ) (p : ℕ) → p < 16  -- fix tables, a partition,
     → (st : State) → Given t st  -- a state that the public calls gave
-    → (events room : List ℕ) (r : Ran) (buffer : List ℕ) → RunMeets t st events room r buffer → r.refusal ≡ 0  -- and a list that is run;
+    → (events room : List ℕ) (left : State) (buffer : List ℕ) → RunMeets t st events room (Ok left) buffer  -- and a list that is run;
     → (st' : State) → Given t st'  -- take a second such state under the same tables
     → ((d : ℕ) → is_member d (set_of t p (shown_state t st) (events_of events)) ≡ true → holds t (shown_state t st) d ≡ holds t (shown_state t st') d)  -- that agrees on what each final member holds,
-    → (events' room' : List ℕ) (r' : Ran) (buffer' : List ℕ) → RunMeets t st' events' room' r' buffer' → r'.refusal ≡ 0  -- and a second list that is run,
+    → (events' room' : List ℕ) (left' : State) (buffer' : List ℕ) → RunMeets t st' events' room' (Ok left') buffer'  -- and a second list that is run,
     → mattering_to t p (shown_state t st) (events_of events) ≡ mattering_to t p (shown_state t st') (events_of events')  -- whose mattering events from there are the same records in the same order:
-    → SameBytes t p st events r buffer st' events' r' buffer'  -- the partition is answered the same, byte for byte, and holds the same
-isolation t p few st g events room r buffer m z st' g' agree events' room' r' buffer' m' z' matter =
+    → SameBytes t p st events left buffer st' events' left' buffer'  -- the partition is answered the same, byte for byte, and holds the same
+isolation t p few st g events room left buffer m st' g' agree events' room' left' buffer' m' matter =
     let same = noninterference t p few (shown_state t st) (given-reached t st g) (events_of events) (shown_state t st') (given-reached t st' g') agree (events_of events') matter in
     record {
       answered =
-          ap (records_to t p (shown_state t st) (events_of events)) (run-answers m z)
+          ap (records_to t p (shown_state t st) (events_of events)) (run-answers m refl)
           ∙ records-are t p (shown_state t st) (events_of events) (drop (length events) room)
           ∙ same.answers
-          ∙ sym (ap (records_to t p (shown_state t st') (events_of events')) (run-answers m' z') ∙ records-are t p (shown_state t st') (events_of events') (drop (length events') room'));
+          ∙ sym (ap (records_to t p (shown_state t st') (events_of events')) (run-answers m' refl) ∙ records-are t p (shown_state t st') (events_of events') (drop (length events') room'));
       holding =
-          ap (λ s. holds t s p) (run-leaves (given-sound t st g) m z) ∙ same.holding ∙ sym (ap (λ s. holds t s p) (run-leaves (given-sound t st' g') m' z'));
+          ap (λ s. holds t s p) (run-leaves (given-sound t st g) m refl) ∙ same.holding ∙ sym (ap (λ s. holds t s p) (run-leaves (given-sound t st' g') m' refl));
     }

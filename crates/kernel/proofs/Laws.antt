@@ -1,7 +1,8 @@
 -- What the public calls' proofs lean on: the refusals of a list, and the reader's tests.
 -- Assumes nothing.
+use Rattle.std.specs.Prelude.{Ok, Err}
 use Prim.Native.Nat.{ℕ, ◌+◌, ◌*◌, ◌/◌, ◌%◌, ◌≤◌, ◌<◌}
-use mathlib.Core.Path.{◌≡◌, refl, sym, ◌∙◌, ap, subst}
+use mathlib.Core.Path.{◌≡◌, refl, sym, ◌∙◌, ap}
 use mathlib.Core.Bool.{Bool, true, false, ◌&&◌}
 use mathlib.Core.List.{List}
 use native.Mathlib.Omega.{arith}
@@ -15,7 +16,9 @@ use Rattle.model.proofs.Tests.{both_left, both_right}
 use Rattle.states.specs.declared.State.{State}
 use Rattle.states.specs.Shown.{is_sound}
 use Rattle.tested_run.specs.Carried.{CarriedOut}
-use Rattle.kernel.specs.declared.Ran.{Ran}
+use Rattle.kernel.specs.declared.refusal.ListRefusal.{ListRefusal}
+use Rattle.kernel.specs.declared.refusal.ListRefusal.TheVariants.{EventsLength, AnswersShort, StateRefused}
+use Rattle.kernel.specs.Shown.{number_of}
 use Rattle.kernel.specs.Meets.{state_after, answers_after, ListMeets}
 
 -- the refusals of a list
@@ -35,29 +38,32 @@ pub fault-27 : (events buffer : List ℕ) (s : Bool) → list_fault false events
 unfolding list_fault
 fault-27 events buffer s = refl
 
+-- no refusal has the number 0
+pub unnumbered : (e : ListRefusal) → number_of e ≡ 0 → ⊥
+unnumbered EventsLength z = cc
+unnumbered AnswersShort z = cc
+unnumbered StateRefused z = cc
+
 -- a refused call hands everything back
-pub refuses : (fault n : ℕ) (t : List ℕ) (st : State) (events buffer : List ℕ) → fault ≡ n → (n ≡ 0 → ⊥) → ListMeets fault t st events buffer (record { refusal = n; state = st }) buffer
+pub refuses : (fault : ℕ) (n : ListRefusal) (t : List ℕ) (st : State) (events buffer : List ℕ) → fault ≡ number_of n → ListMeets fault t st events buffer (Err n) buffer
 unfolding state_after answers_after
-refuses fault n t st events buffer e z =
-    record { refusal = sym e; state = rw (e, ne_eqb n 0 z); answered = rw (e, ne_eqb n 0 z) }
+refuses fault n t st events buffer e =
+    let some = ne_eqb (number_of n) 0 (unnumbered n) in
+    record { refusal = sym e; state = rw (e, some); answered = rw (e, some) }
 
 module _ (t : List ℕ) (st : State) (events buffer : List ℕ) where
   -- 27 where the bytes are not whole, and else what the list gives
-  pub refuses-27 : {whole : Bool} → whole ≡ false → ListMeets (list_fault whole events buffer (is_sound t st)) t st events buffer (record { refusal = 27; state = st }) buffer
-  refuses-27 e = refuses _ 27 t st events buffer (ap (λ w. list_fault w events buffer (is_sound t st)) e ∙ fault-27 events buffer (is_sound t st)) (λ z. omega arith)
+  pub refuses-27 : {whole : Bool} → whole ≡ false → ListMeets (list_fault whole events buffer (is_sound t st)) t st events buffer (Err EventsLength) buffer
+  refuses-27 e = refuses _ EventsLength t st events buffer (ap (λ w. list_fault w events buffer (is_sound t st)) e ∙ fault-27 events buffer (is_sound t st))
 
-  pub runs-whole : {whole : Bool} → whole ≡ true → {r : Ran} {buffer' : List ℕ} → ListMeets (list_fault true events buffer (is_sound t st)) t st events buffer r buffer'
-      → ListMeets (list_fault whole events buffer (is_sound t st)) t st events buffer r buffer'
-  runs-whole e {r} {buffer'} = subst (λ w. ListMeets (list_fault w events buffer (is_sound t st)) t st events buffer r buffer') (sym e)
+  pub refuses-28 : length buffer < length events → ListMeets (list_fault true events buffer (is_sound t st)) t st events buffer (Err AnswersShort) buffer
+  refuses-28 h = refuses _ AnswersShort t st events buffer (fault-28 events buffer (is_sound t st) h)
 
-  pub refuses-28 : length buffer < length events → ListMeets (list_fault true events buffer (is_sound t st)) t st events buffer (record { refusal = 28; state = st }) buffer
-  refuses-28 h = refuses _ 28 t st events buffer (fault-28 events buffer (is_sound t st) h) (λ z. omega arith)
-
-  pub refuses-29 : length events ≤ length buffer → is_sound t st ≡ false → ListMeets (list_fault true events buffer (is_sound t st)) t st events buffer (record { refusal = 29; state = st }) buffer
-  refuses-29 h s = refuses _ 29 t st events buffer (fault-29 events buffer (is_sound t st) h s) (λ z. omega arith)
+  pub refuses-29 : length events ≤ length buffer → is_sound t st ≡ false → ListMeets (list_fault true events buffer (is_sound t st)) t st events buffer (Err StateRefused) buffer
+  refuses-29 h s = refuses _ StateRefused t st events buffer (fault-29 events buffer (is_sound t st) h s)
 
   -- an empty list is run and does nothing
-  pub runs_none : length events ≤ length buffer → is_sound t st ≡ true → length events ≡ 0 → ListMeets (list_fault true events buffer (is_sound t st)) t st events buffer (record { refusal = 0; state = st }) buffer
+  pub runs_none : length events ≤ length buffer → is_sound t st ≡ true → length events ≡ 0 → ListMeets (list_fault true events buffer (is_sound t st)) t st events buffer (Ok st) buffer
   unfolding state_after answers_after events_of
   runs_none h s e =
       let f = fault-0 events buffer (is_sound t st) h s in
@@ -65,13 +71,13 @@ module _ (t : List ℕ) (st : State) (events buffer : List ℕ) where
 
   -- any other list is carried out
   pub runs-all : length events ≤ length buffer → is_sound t st ≡ true → (length events ≡ 0 → ⊥) → (r : State) (buffer' : List ℕ) → CarriedOut t st events buffer r buffer'
-      → ListMeets (list_fault true events buffer (is_sound t st)) t st events buffer (record { refusal = 0; state = r }) buffer'
+      → ListMeets (list_fault true events buffer (is_sound t st)) t st events buffer (Ok r) buffer'
   unfolding state_after answers_after
   runs-all h s e r buffer' c =
       let f = fault-0 events buffer (is_sound t st) h s in
       record { refusal = sym f; state = c.state ∙ (rw (f, ne_eqb (length events) 0 e)); answered = c.answered ∙ (rw f) }
 
--- the reader's tests, in their order
+-- what the reader hands out: nothing where a test fails
 module _ (b : List ℕ) (n : ℕ) where
   pub torn : (length b % 80 ≡ 0 → ⊥) → is_handed b n ≡ false
   unfolding is_handed
@@ -82,14 +88,9 @@ module _ (b : List ℕ) (n : ℕ) where
     unfolding is_handed
     not_there h = rw (eq-eqb (length b % 80) 0 whole, le-ltb n (length b / 80) h)
 
-    module _ (there : n < length b / 80) where
-      pub not-0 : (byte b (80 * n) ≡ 0 → ⊥) → is_handed b n ≡ false
-      unfolding is_handed
-      not-0 h = rw (eq-eqb (length b % 80) 0 whole, lt-ltb n (length b / 80) there, ne_eqb (byte b (80 * n)) 0 h)
-
-      pub by_length : byte b (80 * n) ≡ 0 → is_handed b n ≡ leb (word32 b (80 * n + 8)) 64
-      unfolding is_handed
-      by_length z = rw (eq-eqb (length b % 80) 0 whole, lt-ltb n (length b / 80) there, eq-eqb (byte b (80 * n)) 0 z)
+    pub not-0 : n < length b / 80 → (byte b (80 * n) ≡ 0 → ⊥) → is_handed b n ≡ false
+    unfolding is_handed
+    not-0 there h = rw (eq-eqb (length b % 80) 0 whole, lt-ltb n (length b / 80) there, ne_eqb (byte b (80 * n)) 0 h)
 
   pub none-handed : is_handed b n ≡ false → stretch b n ≡ record { from = 0; size = 0 }
   unfolding stretch

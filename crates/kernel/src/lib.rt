@@ -8,48 +8,21 @@ ghost use Rattle.states.specs.Shown.{is_sound};
 ghost use Rattle.kernel.specs.Meets.{LoadMeets, TestMeets, ListMeets, RunMeets, StepMeets};
 
 mod reader;
+mod refusal;
 
 use events::EVENT_SIZE;
-use loader::Verdict;
+use loader::Refused;
 pub use reader::{place, read};
+pub use refusal::ListRefusal;
 use states::State;
+use tables::Tables;
 
-// The refusals of calls on lists: the events are no whole records; the answers are shorter; the tables or the state.
-pub const EVENTS_LENGTH: u8 = 27;
-
-pub const ANSWERS_SHORT: u8 = 28;
-
-pub const STATE_REFUSED: u8 = 29;
-
-// What a load gives: the verdict, and the state beside it.
-#[derive(Clone, Copy)]
-pub struct Loaded {
-    pub verdict: Verdict,
-    pub state: State,
-}
-
-// What a call on a list gives: 0 or the refusal (27, 28, 29), and the state.
-#[derive(Clone, Copy)]
-pub struct Ran {
-    pub refusal: u8,
-    pub state: State,
-}
-
-// The verdict on tables, with the state at load; a refused load gives zeros.
-pub fn load(t: &[u8]) -> Loaded
+// The state at load, or why tables are refused.
+pub fn load(t: &[u8]) -> Result<State, Refused>
     ensures { LoadMeets t.now result }
 {
-    let verdict = loader::judge(t);
-    match verdict {
-        Verdict::Accepted => Loaded {
-            verdict,
-            state: states::loaded(),
-        },
-        Verdict::Refused(_, _) => Loaded {
-            verdict,
-            state: states::zero(),
-        },
-    }
+    loader::judge(t)?;
+    Ok(states::loaded())
 }
 
 // Test 29: the tables are accepted, and the state's numbers are in their ranges.
@@ -60,60 +33,44 @@ pub fn in_range(t: &[u8], state: State) -> bool
 }
 
 // A list of whole records: 28, 29, then the list. An empty list is run and does nothing.
-fn carry_out(t: &[u8], state: State, events: &[u8], answers: &mut [u8]) -> Ran
+fn carry_out(
+    t: &[u8],
+    state: State,
+    events: &[u8],
+    answers: &mut [u8],
+) -> Result<State, ListRefusal>
     requires { length events.now % 80 ≡ 0 }
     ensures { ListMeets (list_fault true events.now answers.old (is_sound t.now state)) t.now state events.now answers.old result answers.new }
 {
     if answers.len() < events.len() {
-        return Ran {
-            refusal: ANSWERS_SHORT,
-            state,
-        };
+        return Err(ListRefusal::AnswersShort);
     }
-    if !tested_run::is_accepted(t) {
-        return Ran {
-            refusal: STATE_REFUSED,
-            state,
-        };
+    if !tested_run::sound(t, state) {
+        return Err(ListRefusal::StateRefused);
     }
-    let lay = tested_run::layout(t);
-    if !tested_run::state_fits(t, lay, state) {
-        return Ran {
-            refusal: STATE_REFUSED,
-            state,
-        };
+    if events.is_empty() {
+        return Ok(state);
     }
-    if events.len() == 0 {
-        return Ran { refusal: 0, state };
-    }
-    Ran {
-        refusal: 0,
-        state: tested_run::run_list(t, lay, state, events, answers),
-    }
+    let tables = Tables::of(t);
+    Ok(tested_run::run_list(tables, state, events, answers))
 }
 
-// A list of events, each 80 bytes, answered in order.
-pub fn run(t: &[u8], state: State, events: &[u8], answers: &mut [u8]) -> Ran
+// A list of events, each 80 bytes, answered in order: the state after them.
+pub fn run(t: &[u8], state: State, events: &[u8], answers: &mut [u8]) -> Result<State, ListRefusal>
     ensures { RunMeets t.now state events.now answers.old result answers.new }
 {
     if events.len() % EVENT_SIZE != 0 {
-        return Ran {
-            refusal: EVENTS_LENGTH,
-            state,
-        };
+        return Err(ListRefusal::EventsLength);
     }
     carry_out(t, state, events, answers)
 }
 
-// One event of exactly 80 bytes.
-pub fn step(t: &[u8], state: State, event: &[u8], answers: &mut [u8]) -> Ran
+// One event of exactly 80 bytes. A run and a step differ in the test of the length, and share the rest in `carry_out`.
+pub fn step(t: &[u8], state: State, event: &[u8], answers: &mut [u8]) -> Result<State, ListRefusal>
     ensures { StepMeets t.now state event.now answers.old result answers.new }
 {
     if event.len() != EVENT_SIZE {
-        return Ran {
-            refusal: EVENTS_LENGTH,
-            state,
-        };
+        return Err(ListRefusal::EventsLength);
     }
     carry_out(t, state, event, answers)
 }

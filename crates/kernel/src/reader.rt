@@ -7,7 +7,7 @@ use events::{BODY_AT, EVENT_SIZE, NO_ERROR, SIZE_AT};
 use record_fields::LONGEST_MESSAGE;
 use tables::word32;
 
-// Where a stretch of the answers starts, and its length.
+// Where a stretch of the answers starts, and its length: the two numbers that C asks for one by one, 0 and 0 where nothing is handed out.
 #[derive(Clone, Copy)]
 pub struct Stretch {
     pub from: usize,
@@ -18,19 +18,14 @@ pub struct Stretch {
 fn is_handed(answers: &[u8], number: usize) -> bool
     ensures { result ≡ is_handed answers.now number }
 {
-    if answers.len() % EVENT_SIZE != 0 {
-        return false;
-    }
-    if answers.len() / EVENT_SIZE <= number {
-        return false;
-    }
-    if answers[EVENT_SIZE * number] != NO_ERROR {
-        return false;
-    }
-    word32(answers, EVENT_SIZE * number + SIZE_AT) <= LONGEST_MESSAGE
+    answers.len() % EVENT_SIZE == 0
+        && number < answers.len() / EVENT_SIZE
+        && answers[EVENT_SIZE * number] == NO_ERROR
+        && word32(answers, EVENT_SIZE * number + SIZE_AT) <= LONGEST_MESSAGE
 }
 
-// Bytes 16 up to 16 plus length of the record asked for, or the empty stretch at the start.
+// Bytes 16 up to 16 plus length of the record asked for, or the empty stretch at the start. What may not change: `StretchMeets` gives that stretch,
+// and no None, where nothing is handed out.
 pub fn place(answers: &[u8], number: usize) -> Stretch
     ensures { StretchMeets answers.now number result }
 {

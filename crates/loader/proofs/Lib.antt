@@ -1,2 +1,3 @@
+pub mod Accepts
 pub mod Faults
 pub mod Unique

@@ -1,8 +1,13 @@
--- A piece of the model's tests that a function of its own carries out.
+-- What the search for a fault finds.
 -- Assumes nothing.
-use Rattle.std.specs.Prelude.{if◌then◌else◌, ℕ, Bool}
+use Rattle.std.specs.Prelude.{◌≡◌, ◌<◌}
+use Rattle.model.specs.Tables.{Tables, records}
+use Rattle.model.specs.Load.{fault, first_fault}
+use Rattle.loader.specs.declared.refusal.Refused.{Refused}
+use Rattle.loader.specs.Shown.{number_of}
 
--- the lowest number of a record's faults, from the five tests of 21 to 25
-abbrev pub lowest : Bool → Bool → Bool → Bool → Bool → ℕ
-lowest kind count field name end =
-    if kind then 21 else if count then 22 else if field then 23 else if name then 24 else if end then 25 else 0
+-- the first offending record of tables, which has one, and its fault
+pub record IsFirst (t : Tables) (r : Refused) : Type 0 where
+  pub first : r.«record» ≡ first_fault t
+  pub within : r.«record» < records t
+  pub number : number_of r.fault ≡ fault t r.«record»

@@ -7,7 +7,7 @@ use lib.ListN.{set}
 use Rattle.model.specs.State.{with_queue, fresh}
 use Rattle.stores.proofs.Laws.{queue-empty}
 use Rattle.ports.specs.Held.{row_of, block_of, store_in, RowPut, PortPut}
-use Rattle.ports.proofs.Ports.{port-put, put_is, block-kept}
+use Rattle.ports.proofs.PortAt.{port-put, put_is, block-kept}
 use Rattle.ports.proofs.Rows.{row-again, row_is}
 
 pub unmade-row : {n₀ n₁ n₂ n₃ n₄ : List ℕ} {k : ℕ} → RowPut n₀ n₁ k (set (row_of n₀ k) 0 0) → RowPut n₁ n₂ k (set (row_of n₁ k) 1 0) → RowPut n₂ n₃ k (set (row_of n₂ k) 2 0)

@@ -1,4 +1,4 @@
--- What the proofs of the mover lean on, of a channel: where its record and its ends stand, its destinations in their turn, its source, and the whole move.
+-- What the proofs of the mover lean on, of a channel: its destinations in their turn, its source, and the whole move.
 -- Assumes nothing.
 use Prim.Native.Nat.{ℕ, suc, ◌+◌, ◌-◌, ◌≤◌, ◌<◌}
 use mathlib.Core.Path.{◌≡◌, refl, sym, ◌∙◌, ap, ap₂, subst}
@@ -8,7 +8,7 @@ use native.Mathlib.Numerals.{add-one}
 use native.Mathlib.Omega.{arith}
 use lib.ListN.{length, get_or}
 use Rattle.model.specs.Words.{all_in}
-use Rattle.model.specs.Tables.{Tables, records, ports_end, Row, row, row_at, source_port, destinations, destination_port}
+use Rattle.model.specs.Tables.{Tables, Row, row, source_port, destinations, destination_port}
 use Rattle.model.specs.Tables.{ports as port_count, channels as channel_count}
 use Rattle.model.specs.State.{Message, Clock, Port, State, port, with_port, with_queue}
 use Rattle.model.specs.Answers.{nothing_told}
@@ -25,12 +25,10 @@ use Rattle.events.specs.declared.answers.Answer.{Answer}
 use Rattle.events.specs.Shown.{refused_as, told_as}
 use Rattle.stores.specs.declared.Letter.{Letter}
 use Rattle.stores.specs.Ring.{Sized, written, letter_of}
-use Rattle.stores.proofs.Lists.{length-filled}
 use Rattle.stores.proofs.Laws.{written-letter}
 use Rattle.ports.specs.Held
 use Rattle.ports.specs.Held.{store_at, port_at, PortPut}
-use Rattle.service_contracts.specs.declared.Layout.{Layout}
-use Rattle.service_contracts.specs.Served.{Lent, Fits, TakesOldest}
+use Rattle.service_contracts.specs.Served.{Fits, TakesOldest}
 use Rattle.service_contracts.specs.Did
 use Rattle.service_contracts.specs.Did.{shown, Does}
 use Rattle.service_contracts.proofs.Contents.{none-held, some-held, oldest-held}
@@ -38,64 +36,46 @@ use Rattle.service_contracts.proofs.Holding.{shown-port, shown-put, row_read, fi
 use Rattle.moves.specs.Moved.{Arrived, Carried, Delivered, Moved}
 use Rattle.moves.proofs.Laws.{left-ranged, held-put}
 
--- channel c of tables whose ports the lent arrays hold
-module _ {t : Tables} {lay : Layout} {numbers bytes : List ℕ} (h : Did.Held t lay numbers bytes) (c : ℕ) (there : c < lay.channels) where
+-- channel c of tables whose ports the numbers and bytes hold
+module _ {t : Tables} {numbers bytes : List ℕ} (h : Did.Held t numbers bytes) (c : ℕ) (there : c < channel_count t) where
   laws : Accepted t
   laws = accepted t h.accepted
 
-  here : c < channel_count t
-  here = omega (arith, h.laid.channelled)
-
-  -- where the tables' reader finds it
-  pub few-records : lay.windows + lay.ports ≤ 128
-  few-records = omega (arith, h.laid.windowed, h.laid.ported, laws.few_windows, laws.few_ports)
-
-  pub first-channel : lay.windows + lay.ports ≡ ports_end t
-  first-channel = omega (arith, h.laid.windowed, h.laid.ported, laws.ports_after)
-
-  pub its-record : lay.windows + lay.ports + c < records t
-  its-record = omega (arith, first-channel, here, laws.channels_after)
-
   -- the doer fits its byte
   pub few-channels : c < 32
-  few-channels = omega (arith, here, laws.few_channels)
+  few-channels = omega (arith, laws.few_channels)
 
-  pub source-there : source_port t c < port_count t
-  source-there = (laws.sources c here).there
+  source-there : source_port t c < port_count t
+  source-there = (laws.sources c there).there
 
   pub few-destinations : destinations t c ≤ 8
-  few-destinations = (laws.sources c here).few_ends
+  few-destinations = (laws.sources c there).few_ends
 
-  -- destination j, with its row as the reader decodes it
+  -- destination j, whose number the reader has found, with its row as the reader decodes it
   module _ (j : ℕ) (few : j < destinations t c) where
     end : DestinationEnd t c j
-    end = laws.destination_ends c here j few
+    end = laws.destination_ends c there j few
 
-    pub its-row : {k : ℕ} → k ≡ destination_port t c j → lay.windows + k < records t
-    its-row e = omega (arith, e, h.laid.windowed, end.there, laws.ports_after, laws.channels_after)
+    pub destination-there : {k : ℕ} → k ≡ destination_port t c j → k < port_count t
+    destination-there e = omega (arith, e, end.there)
 
-    decoded-row : {k : ℕ} {r : PortRow} → k ≡ destination_port t c j → r ≡ decoded (row_at t (lay.windows + k)) → r ≡ decoded (row t (destination_port t c j))
-    decoded-row {k} e read = read ∙ ap (λ i. decoded (row_at t i)) (omega (arith, e, h.laid.windowed))
+    pub destination-fits : {k : ℕ} {r : PortRow} → k ≡ destination_port t c j → r ≡ decoded (row t k) → Fits numbers bytes k r
+    destination-fits {k} {r} e read = fits-of h k (destination-there e) r read
 
-    pub destination-fits : {k : ℕ} {r : PortRow} → k ≡ destination_port t c j → r ≡ decoded (row_at t (lay.windows + k)) → Fits numbers bytes k r
-    destination-fits {k} {r} e read = subst (λ (x : ℕ). Fits numbers bytes x r) (sym e) (fits-of h (destination_port t c j) end.there r (decoded-row e read))
-
-    pub handed : {numbers' bytes' : List ℕ} {k : ℕ} {r : PortRow} (time : ℕ) (m : Message) → k ≡ destination_port t c j → r ≡ decoded (row_at t (lay.windows + k))
+    pub handed : {numbers' bytes' : List ℕ} {k : ℕ} {r : PortRow} (time : ℕ) (m : Message) → k ≡ destination_port t c j → r ≡ decoded (row t k)
         → Arrived time (row_of r) m k numbers bytes numbers' bytes'
         → Arrived time (row t (destination_port t c j)) m (destination_port t c j) numbers bytes numbers' bytes'
     handed {numbers'} {bytes'} {k} {r} time m e read p =
-        subst (λ (x : Row). Arrived time x m (destination_port t c j) numbers bytes numbers' bytes') (row_read t laws (destination_port t c j) end.there (decoded-row e read))
-        (subst (λ (x : ℕ). Arrived time (row_of r) m x numbers bytes numbers' bytes') e p)
+        subst (λ (x : ℕ). Arrived time (row t x) m x numbers bytes numbers' bytes') e
+        (subst (λ (x : Row). Arrived time x m k numbers bytes numbers' bytes') (row_read t laws k (destination-there e) read) p)
 
     -- what it has got is in range
-    pub held_on : {numbers' bytes' : List ℕ} (time : ℕ) {l : Letter} → Carried t c l
-        → Arrived time (row t (destination_port t c j)) (written l) (destination_port t c j) numbers bytes numbers' bytes'
-        → length numbers' ≡ length numbers → length bytes' ≡ length bytes → Did.Held t lay numbers' bytes'
-    held_on time {l} carried p same same' =
+    pub held_on : {numbers' bytes' : List ℕ} (time : ℕ) (m : Message) → Carried t c m
+        → Arrived time (row t (destination_port t c j)) m (destination_port t c j) numbers bytes numbers' bytes' → Did.Held t numbers' bytes'
+    held_on time m carried p =
         let r = row t (destination_port t c j) in
-        let m = written l in
-        let fit : fits r m ≡ true = is-between 1 r.largest (length m) (between-low 1 _ (length m) carried.fit) (omega (arith, between-high 1 _ (length m) carried.fit, end.takes_all)) in
-        held-put h p (arrived-ranged time r m _ fit (h.each (destination_port t c j) end.there)) same same'
+        let fit : fits r m ≡ true = is-between 1 r.largest (length m) (between-low 1 _ (length m) carried) (omega (arith, between-high 1 _ (length m) carried, end.takes_all)) in
+        held-put h p (arrived-ranged time r m _ fit (h.each (destination_port t c j) end.there))
 
     -- a turn of the loop: what is left to deliver is one less
     pub turn : {numbers' bytes' : List ℕ} (time : ℕ) (m : Message) → Arrived time (row t (destination_port t c j)) m (destination_port t c j) numbers bytes numbers' bytes'
@@ -123,11 +103,11 @@ module _ {t : Tables} {lay : Layout} {numbers bytes : List ℕ} (h : Did.Held t 
 
   -- the source, whose number the reader has found
   module _ {k : ℕ} (found : k ≡ source_port t c) where
-    pub source-lent : Lent numbers bytes k
-    source-lent = record { rows = h.rows; blocks = h.blocks; there = omega (arith, found, source-there, laws.few_ports) }
+    pub source-few : k < 64
+    source-few = omega (arith, found, source-there, laws.few_ports)
 
     pub source-sized : Sized (store_at numbers bytes k)
-    source-sized = subst (λ (x : ℕ). Sized (store_at numbers bytes x)) (sym found) (sized-at h (source_port t c) source-there)
+    source-sized = sized-at h k (omega (arith, found, source-there))
 
     -- how many messages it holds
     module _ {w : ℕ} (counted : w ≡ get_or (Held.row_of numbers k) 4 0) where
@@ -158,22 +138,25 @@ module _ {t : Tables} {lay : Layout} {numbers bytes : List ℕ} (h : Did.Held t 
         short : length oldest.0 ≤ 64
         short = omega (arith, between-high 1 source_row.largest (length oldest.0) fit, (laws.rows (source_port t c) source-there).few_bytes)
 
-        module _ {numbers₁ : List ℕ} {l : Letter} (gone : TakesOldest numbers bytes numbers₁ k l) where
+        module _ {numbers₁ bytes₁ : List ℕ} {l : Letter} (gone : TakesOldest numbers bytes numbers₁ k l) (kept : bytes₁ ≡ bytes) where
           taken : (l ≡ letter_of oldest.0) × PortPut numbers bytes numbers₁ bytes (source_port t c) (with_queue source oldest.1)
           taken = subst (λ (x : ℕ). TakesOldest numbers bytes numbers₁ x l) found gone oldest.0 oldest.1 oldest.2
+
+          put : PortPut numbers bytes numbers₁ bytes₁ (source_port t c) (with_queue source oldest.1)
+          put = subst (λ (b : List ℕ). PortPut numbers bytes numbers₁ b (source_port t c) (with_queue source oldest.1)) (sym kept) taken.1
 
           read : written l ≡ oldest.0
           read = ap written taken.0 ∙ written-letter oldest.0 short
 
           -- what is carried on fits, and what the source keeps is in range
-          pub source-carried : Carried t c l
-          source-carried = record { whole = ap (λ (x : Letter). length x.bytes) taken.0 ∙ length-filled 64 oldest.0; short = rw taken.0 short; fit = rw read fit }
+          pub source-carried : Carried t c (written l)
+          source-carried = rw read fit
 
-          pub source-held : length numbers₁ ≡ length numbers → Did.Held t lay numbers₁ bytes
-          source-held same = held-put h taken.1 (left-ranged source_row source oldest.0 oldest.1 oldest.2 ranged) same refl
+          pub source-held : Did.Held t numbers₁ bytes₁
+          source-held = held-put h put (left-ranged source_row source oldest.0 oldest.1 oldest.2 ranged)
 
           -- the whole move
-          pub moved : {r : Answer} (time : ℕ) (numbers₂ bytes₂ : List ℕ) → Delivered t time c (written l) numbers₁ bytes numbers₂ bytes₂
+          pub moved : {r : Answer} (time : ℕ) (numbers₂ bytes₂ : List ℕ) → Delivered t time c (written l) numbers₁ bytes₁ numbers₂ bytes₂
               → r ≡ told_as (64 + c) nothing_told → Moved t time c r numbers bytes numbers₂ bytes₂
           unfolding transmit
           moved {r} time numbers₂ bytes₂ all answered clock modes =
@@ -189,8 +172,8 @@ module _ {t : Tables} {lay : Layout} {numbers bytes : List ℕ} (h : Did.Held t 
               asked : transmit t (λ k. time) s c ≡ transmit_oldest t (λ k. time) s c (oldest.0 ∷ oldest.1)
               asked = ap (transmit_oldest t (λ k. time) s c) (ap (λ q. q.queue) at ∙ oldest.2)
 
-              left : shown t clock modes numbers₁ bytes ≡ with_port s (source_port t c) (with_queue (port s (source_port t c)) oldest.1)
-              left = shown-put t clock modes source-there taken.1 ∙ ap (λ q. with_port s (source_port t c) (with_queue q oldest.1)) (sym at)
+              left : shown t clock modes numbers₁ bytes₁ ≡ with_port s (source_port t c) (with_queue (port s (source_port t c)) oldest.1)
+              left = shown-put t clock modes source-there put ∙ ap (λ q. with_port s (source_port t c) (with_queue q oldest.1)) (sym at)
 
       -- and where there is none
       pub unmoved : {r : Answer} (time : ℕ) → w ≡ 0 → r ≡ refused_as 1 (64 + c) → Moved t time c r numbers bytes numbers bytes

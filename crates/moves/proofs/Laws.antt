@@ -2,7 +2,7 @@
 -- Channels has the laws of a channel and of the whole move.
 -- Assumes nothing.
 use Prim.Native.Nat.{ℕ, ◌<◌}
-use mathlib.Core.Path.{◌≡◌, refl, sym, ◌∙◌, ap}
+use mathlib.Core.Path.{◌≡◌, refl, sym, ◌∙◌, ap, subst}
 use mathlib.Core.Bool.{Bool, true, false, ◌||◌}
 use mathlib.Core.List.{List, ◌∷◌}
 use native.Mathlib.Omega.{arith}
@@ -20,7 +20,6 @@ use Rattle.model.specs.Ranged.{PortRanged}
 use Rattle.ports.specs.Held
 use Rattle.ports.specs.Held.{port_at, RowPut, PortPut}
 use Rattle.ports.proofs.Marks.{put-arrival}
-use Rattle.service_contracts.specs.declared.Layout.{Layout}
 use Rattle.service_contracts.specs.Did
 
 -- ---- one destination
@@ -41,16 +40,19 @@ module _ (time : ℕ) (r : Row) (m : Message) (d : Port) where
   arrived-sampling e q = rw (eq-eqb d.created 1 e, q)
 
 -- a port put, and then its arrival time set
-pub put-stamped : {numbers bytes numbers₁ bytes₁ numbers₂ : List ℕ} {k time : ℕ} {q : Port} → PortPut numbers bytes numbers₁ bytes₁ k q
-    → RowPut numbers₁ numbers₂ k (set (Held.row_of numbers₁ k) 2 time) → PortPut numbers bytes numbers₂ bytes₁ k (record { created = q.created; arrival = time; validity = q.validity; queue = q.queue })
-put-stamped {numbers₁ = numbers₁} {bytes₁ = bytes₁} {k = k} {time = time} p r =
+pub put-stamped : {numbers bytes numbers₁ bytes₁ numbers₂ bytes₂ : List ℕ} {k time : ℕ} {q : Port} → PortPut numbers bytes numbers₁ bytes₁ k q
+    → RowPut numbers₁ numbers₂ k (set (Held.row_of numbers₁ k) 2 time) → bytes₂ ≡ bytes₁
+    → PortPut numbers bytes numbers₂ bytes₂ k (record { created = q.created; arrival = time; validity = q.validity; queue = q.queue })
+put-stamped {numbers} {bytes} {numbers₁} {bytes₁} {numbers₂} {k = k} {time = time} {q = q} p r kept =
     let again = put-arrival numbers₁ bytes₁ k time r in
-    record {
+    let stamped : Port = record { created = q.created; arrival = time; validity = q.validity; queue = q.queue } in
+    subst (λ (b : List ℕ). PortPut numbers bytes numbers₂ b k stamped) (sym kept)
+    (record {
       here = again.here ∙ ap (λ q. record { created = q.created; arrival = time; validity = q.validity; queue = q.queue }) p.here;
       elsewhere = λ j other. again.elsewhere j other ∙ p.elsewhere j other;
-    }
+    })
 
--- ---- ports of the lent arrays in their ranges
+-- ---- ports in their ranges
 
 -- a message less
 holding : (b : Bool) (m : Message) (rest : List Message) → (b || eqb (length (m ∷ rest)) 0) ≡ true → b ≡ true
@@ -69,10 +71,10 @@ left-ranged r q m rest e h =
     }
 
 -- one port put
-pub held-put : {t : Tables} {lay : Layout} {numbers bytes numbers' bytes' : List ℕ} {k : ℕ} {q : Port} → Did.Held t lay numbers bytes → PortPut numbers bytes numbers' bytes' k q
-    → PortRanged (row t k) q → length numbers' ≡ length numbers → length bytes' ≡ length bytes → Did.Held t lay numbers' bytes'
-held-put {t} {lay} {numbers} {bytes} {numbers'} {bytes'} {k} {q} h p ranged same same' =
-    record { accepted = h.accepted; laid = h.laid; rows = same ∙ h.rows; blocks = same' ∙ h.blocks; each = λ j l. go j l (eqb j k) refl }
+pub held-put : {t : Tables} {numbers bytes numbers' bytes' : List ℕ} {k : ℕ} {q : Port} → Did.Held t numbers bytes → PortPut numbers bytes numbers' bytes' k q → PortRanged (row t k) q
+    → Did.Held t numbers' bytes'
+held-put {t} {numbers} {bytes} {numbers'} {bytes'} {k} {q} h p ranged =
+    record { accepted = h.accepted; each = λ j l. go j l (eqb j k) refl }
   where
     go : (j : ℕ) → j < port_count t → (b : Bool) → eqb j k ≡ b → PortRanged (row t j) (port_at numbers' bytes' j)
     go j l true e = rw (eqb-true j k e, p.here) ranged

@@ -1,2 +1,2 @@
--- What a channel's move does to the lent arrays.
+-- What a channel's move does to the ports.
 pub mod Moved

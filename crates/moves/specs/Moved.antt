@@ -1,14 +1,12 @@
--- A channel's move over the lent arrays, against the model's: one destination, all of them, and the whole.
+-- A channel's move over the numbers and bytes of ports, against the model's: one destination, all of them, and the whole.
 -- Assumes nothing.
-use Rattle.std.specs.Prelude.{ℕ, ◌+◌, ◌≤◌, ◌≡◌, true, List, length}
+use Rattle.std.specs.Prelude.{ℕ, ◌+◌, ◌≡◌, true, List}
 use Rattle.model.specs.Tables.{Tables, Row, row, source_port, destinations}
 use Rattle.model.specs.State.{Message, Clock}
 use Rattle.model.specs.Services.{arrived, delivered, transmit}
 use Rattle.model.specs.Step.{first_channel}
 use Rattle.model.specs.State.{fits}
 use Rattle.events.specs.declared.answers.Answer.{Answer}
-use Rattle.stores.specs.declared.Letter.{Letter}
-use Rattle.stores.specs.Ring.{written}
 use Rattle.ports.specs.Held.{port_at, PortPut}
 use Rattle.service_contracts.specs.Did.{shown, Does}
 
@@ -17,11 +15,9 @@ abbrev pub Arrived : (time : ℕ) → Row → Message → (k : ℕ) → (numbers
 Arrived time r m k numbers bytes numbers' bytes' =
     PortPut numbers bytes numbers' bytes' k (arrived time r m (port_at numbers bytes k))
 
--- a letter of channel c: it has 64 bytes and is within them, and its message fits the source's row, so that it fits each destination's
-pub record Carried (t : Tables) (c : ℕ) (l : Letter) : Type 0 where
-  pub whole : length l.bytes ≡ 64
-  pub short : l.size ≤ 64
-  pub fit : fits (row t (source_port t c)) (written l) ≡ true
+-- a message of channel c: it fits the source's row, so that it fits each destination's
+abbrev pub Carried : Tables → ℕ → Message → Type 0
+Carried t c m = fits (row t (source_port t c)) m ≡ true
 
 -- the message has come to all destinations of channel c. Clock and modes have no part in it, so it is said for any
 abbrev pub Delivered : (t : Tables) → (time c : ℕ) → Message → (numbers bytes numbers' bytes' : List ℕ) → Type 0

@@ -1,122 +1,80 @@
 // 14, TRANSMIT: the oldest message leaves a channel's source, and each destination that is created gets it.
+// A channel goes by its number, which an event names and the doer tells, beside the tables: no plainer as a record, of which the number would be asked.
 // "Otherwise it is lost": nothing here waits for a destination, and no answer tells what became of a message.
 #![tactic(auto)]
 
-ghost use Rattle.std.specs.Prelude.{◌≡◌, ◌<◌, ◌≤◌, length, get_or};
+ghost use Rattle.std.specs.Prelude.{◌≡◌, ◌<◌, get_or};
 ghost use Rattle.model.specs.Tables.{row, destinations, destination_port};
 ghost use Rattle.tables.specs.Shown.{row_of};
-ghost use Rattle.stores.specs.Ring.{written, lettered};
+ghost use Rattle.stores.specs.Ring.{written};
 ghost use Rattle.ports.specs.Held;
 ghost use Rattle.service_contracts.specs.Served.{Fits};
 ghost use Rattle.service_contracts.specs.Did.{Held};
 ghost use Rattle.moves.specs.Moved.{Arrived, Carried, Delivered, Moved};
 
-use events::Answer;
-use service_contracts::Layout;
-use tables::{PortRow, Transfer};
+use events::{Answer, FIRST_CHANNEL, Refusal};
+use ports::{ARRIVAL, COUNT, CREATED, Ports};
+use stores::Letter;
+use tables::{PortRow, Tables, Transfer};
 
 // One destination: nothing if it is not created; else it is stored or lost, and a sample has arrived now.
-fn arrive(
-    numbers: &mut [u32],
-    bytes: &mut [u8],
-    time: u32,
-    k: usize,
-    row: PortRow,
-    letter: &[u8],
-    size: u32,
-)
-    requires fits { Fits numbers.old bytes.old k row }
-    requires size_bound { size ≤ 64 }
-    requires letter_len { length letter.now ≡ 64 }
-    ensures { Arrived time (row_of row) (written (lettered letter.now size)) k numbers.old bytes.old numbers.new bytes.new }
+fn arrive(ports: &mut Ports, time: u32, k: usize, row: PortRow, letter: &Letter)
+    requires { Fits ports.old.numbers ports.old.bytes k row }
+    ensures { Arrived time (row_of row) (written letter.now) k ports.old.numbers ports.old.bytes ports.new.numbers ports.new.bytes }
 {
-    if ports::number(numbers, k, ports::CREATED) == 0 {
+    if ports.number(k, CREATED) == 0 {
         return;
     }
-    write_and_send::store(numbers, bytes, k, row, letter, size);
-    let transfer = row.transfer;
-    match transfer {
-        Transfer::Sampling(_) => {
-            ports::set_number(numbers, k, ports::ARRIVAL, time);
-        }
+    write_and_send::store(ports, k, row, letter);
+    match row.transfer {
+        Transfer::Sampling(_) => ports.set_number(k, ARRIVAL, time),
         // the arrival time of a queuing port is never touched
         Transfer::Queuing(_) => {}
     }
 }
 
 // Destination j of channel c, with its row from the tables.
-fn hand_on(
-    t: &[u8],
-    lay: Layout,
-    numbers: &mut [u32],
-    bytes: &mut [u8],
-    time: u32,
-    c: usize,
-    j: usize,
-    letter: &[u8],
-    size: u32,
-)
-    requires held { Held t.now lay numbers.old bytes.old }
-    requires c_lt_channels { (c < lay.channels) × (j < destinations t.now c) }
-    requires carried { Carried t.now c (lettered letter.now size) }
-    ensures { Arrived time (row t.now (destination_port t.now c j)) (written (lettered letter.now size)) (destination_port t.now c j) numbers.old bytes.old numbers.new bytes.new }
+fn hand_on(tables: Tables, ports: &mut Ports, time: u32, c: usize, j: usize, letter: &Letter)
+    requires held { Held tables.bytes.now ports.old.numbers ports.old.bytes }
+    requires there { (c < tables.channels) × (j < destinations tables.bytes.now c) }
+    ensures { Arrived time (row tables.entry.bytes.now (destination_port tables.entry.bytes.now c j)) (written letter.now) (destination_port tables.entry.bytes.now c j) ports.old.numbers ports.old.bytes ports.new.numbers ports.new.bytes }
 {
-    let k = tables::destination_port(t, lay.windows + lay.ports, c, j);
-    let row = tables::port_row(t, lay.windows + k);
-    arrive(numbers, bytes, time, k, row, letter, size);
+    let k = tables.destination_port(c, j);
+    arrive(ports, time, k, tables.row(k), letter);
 }
 
 // The message handed to each destination in its turn.
-fn deliver(
-    t: &[u8],
-    lay: Layout,
-    numbers: &mut [u32],
-    bytes: &mut [u8],
-    time: u32,
-    c: usize,
-    letter: &[u8],
-    size: u32,
-)
-    requires held { Held t.now lay numbers.old bytes.old }
-    requires c_lt_channels { c < lay.channels }
-    requires carried { Carried t.now c (lettered letter.now size) }
-    ensures { Delivered t.now time c (written (lettered letter.now size)) numbers.old bytes.old numbers.new bytes.new }
+fn deliver(tables: Tables, ports: &mut Ports, time: u32, c: usize, letter: &Letter)
+    requires held { Held tables.bytes.now ports.old.numbers ports.old.bytes }
+    requires there { c < tables.channels }
+    requires carried { Carried tables.bytes.now c (written letter.now) }
+    ensures { Delivered tables.entry.bytes.now time c (written letter.now) ports.old.numbers ports.old.bytes ports.new.numbers ports.new.bytes }
 {
-    let n = tables::destination_count(t, lay.windows + lay.ports, c) as usize;
-    let mut j: usize = 0;
-    while j < n {
-        hand_on(t, lay, numbers, bytes, time, c, j, letter, size);
-        j = j + 1;
+    for j in 0..tables.destination_count(c) as usize {
+        hand_on(tables, ports, time, c, j, letter);
     }
 }
 
 // How many messages port k has for its channel to move: all that it holds. What the destinations are like holds none of them back.
-fn waiting(numbers: &[u32], k: usize) -> u32
-    requires { (length numbers.now ≡ 832) × (k < 64) }
-    ensures { result ≡ get_or (Held.row_of numbers.now k) 4 0 }
+fn waiting(ports: &Ports, k: usize) -> u32
+    requires { k < 64 }
+    ensures { result ≡ get_or (Held.row_of ports.now.numbers k) 4 0 }
 {
-    ports::number(numbers, k, ports::COUNT)
+    ports.number(k, COUNT)
 }
 
 // Channel c's move. The doer is the channel, 64 plus its number; the answer is 1 if the source is empty, and else 0, whoever got the message.
-pub fn transmit(
-    t: &[u8],
-    lay: Layout,
-    numbers: &mut [u32],
-    bytes: &mut [u8],
-    time: u32,
-    c: usize,
-) -> Answer
-    requires held { Held t.now lay numbers.old bytes.old }
-    requires c_lt_channels { c < lay.channels }
-    ensures { Moved t.now time c result numbers.old bytes.old numbers.new bytes.new }
+pub fn transmit(tables: Tables, ports: &mut Ports, time: u32, c: usize) -> Answer
+    requires held { Held tables.bytes.now ports.old.numbers ports.old.bytes }
+    requires there { c < tables.channels }
+    ensures { Moved tables.entry.bytes.now time c result ports.old.numbers ports.old.bytes ports.new.numbers ports.new.bytes }
 {
-    let doer = events::FIRST_CHANNEL + c as u8;
-    let k = tables::source_port(t, lay.windows + lay.ports, c);
-    if waiting(numbers, k) == 0 {
-        return events::refusal(events::NO_ACTION, doer);
+    let doer = FIRST_CHANNEL + c as u8;
+    let k = tables.source_port(c);
+    if waiting(ports, k) == 0 {
+        return events::refusal(Refusal::NoAction, doer);
     }
-    let l = read_and_receive::take_oldest(numbers, bytes, k);
-    deliver(t, lay, numbers, bytes, time, c, &l.bytes, l.size);
+    let letter = read_and_receive::take_oldest(ports, k);
+    deliver(tables, ports, time, c, &letter);
     events::done(doer)
 }

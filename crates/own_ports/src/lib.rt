@@ -1,62 +1,45 @@
 // Own ports: a created port of the caller, of the service's mode.
 #![tactic(auto)]
 
-ghost use Rattle.std.specs.Prelude.{◌≡◌, true, ◌<◌, length, List, ℕ};
-ghost use Rattle.model.specs.Events.{known};
+ghost use Rattle.std.specs.Prelude.{◌≡◌, ◌<◌, ◌-◌, true, false, List, ℕ, MatchOption};
+ghost use Rattle.model.specs.Tables.{ports as port_count, row};
 ghost use Rattle.model.specs.Services.{use_own};
+ghost use Rattle.tables.specs.Shown.{decoded};
 ghost use Rattle.events.specs.Shown.{call_of};
 ghost use Rattle.service_contracts.specs.Did.{Held};
-ghost use Rattle.service_contracts.specs.Called.{Rows, Asked, Calls};
+ghost use Rattle.service_contracts.specs.Called.{Rows, Calls};
 ghost use Rattle.own_ports.specs.Own.{own_at};
 
-use events::{Answer, Fields};
-use service_contracts::Layout;
+use events::{Answer, Call, Refusal};
+use ports::{CREATED, Ports};
+use tables::{PortRow, Tables};
 
-// The call's id is that of an own port.
-fn own(t: &[u8], lay: Layout, numbers: &[u32], p: u8, f: Fields) -> bool
-    requires rows { Rows t.now lay }
-    requires numbers_len { (length numbers.now ≡ 832) × (known f.code ≡ true) }
-    ensures { result ≡ own_at t.now numbers.now p (call_of f) }
+// The port that the call's id names, with its row, if it is an own port.
+#[tactic(auto, using(std::proofs::lemmas::Bool::Decides::nat_tests), unfolding(crate::specs::Own::own_at))]
+fn own(tables: Tables, ports: &Ports, p: u8, call: Call) -> Option<(usize, PortRow)>
+    requires { Rows tables.bytes.now }
+    ensures { MatchOption result (own_at tables.entry.bytes.now ports.now.numbers p (call_of call.entry) ≡ false)
+        (λ r. (own_at tables.entry.bytes.now ports.now.numbers p (call_of call.entry) ≡ true) × (r.0 ≡ call.entry.id - 1) × (r.0 < port_count tables.entry.bytes.now) × (r.1 ≡ decoded (row tables.entry.bytes.now r.0))) }
 {
-    let id = f.id as usize;
-    if id < 1 {
-        return false;
-    }
-    if lay.ports < id {
-        return false;
+    let id = call.id as usize;
+    if id < 1 || tables.ports < id {
+        return None;
     }
     let k = id - 1;
-    let row = tables::port_row(t, lay.windows + k);
-    if row.owner != p {
-        return false;
-    }
-    let needed = events::need(f.code);
-    let transfer = row.transfer;
-    if !tables::is_mode(transfer, needed.mode) {
-        return false;
-    }
-    ports::number(numbers, k, ports::CREATED) == 1
+    let row = tables.row(k);
+    let owned = row.owner == p
+        && row.transfer.is_mode(events::need(call.code).mode)
+        && ports.number(k, CREATED) == 1;
+    owned.then_some((k, row))
 }
 
 // Codes 2, 3, 5, 7, 8, 10 and 11: not own port, 3; else the service.
-pub fn use_own(
-    t: &[u8],
-    lay: Layout,
-    numbers: &mut [u32],
-    bytes: &mut [u8],
-    p: u8,
-    time: u32,
-    event: &[u8],
-    f: Fields,
-) -> Answer
-    requires held { Held t.now lay numbers.old bytes.old }
-    requires asked { Asked event.now (call_of f) }
-    ensures { (modes : List ℕ) → Calls t.now (λ s. use_own t.now time s p event.now (call_of f)) p result modes numbers.old bytes.old modes numbers.new bytes.new }
+pub fn use_own(tables: Tables, ports: &mut Ports, p: u8, time: u32, call: Call) -> Answer
+    requires { Held tables.bytes.now ports.old.numbers ports.old.bytes }
+    ensures { (modes : List ℕ) → Calls tables.entry.bytes.now (λ s. use_own tables.entry.bytes.now time s p call.entry.event.now (call_of call.entry)) p result modes ports.old.numbers ports.old.bytes modes ports.new.numbers ports.new.bytes }
 {
-    if !own(t, lay, numbers, p, f) {
-        return events::refusal(events::INVALID_PARAM, p);
-    }
-    let k = f.id as usize - 1;
-    let row = tables::port_row(t, lay.windows + k);
-    port_services::serve(numbers, bytes, k, row, time, event, f, p)
+    let Some((k, row)) = own(tables, ports, p, call) else {
+        return events::refusal(Refusal::InvalidParam, p);
+    };
+    port_services::serve(ports, k, row, time, call, p)
 }

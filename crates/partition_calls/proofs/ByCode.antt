@@ -1,13 +1,30 @@
 -- A partition's call by code: the model's service, case by case.
 -- Assumes nothing.
 use Prim.Native.Nat.{ℕ}
-use mathlib.Core.Path.{◌≡◌}
-use mathlib.Core.Logic.{◌⊎◌, inl, inr}
-use borrow.Author.Tests.{eq-eqb, ne_eqb}
+use mathlib.Core.Path.{◌≡◌, refl}
+use mathlib.Core.Logic.{◌⊎◌, inl, inr, ⊎_elim}
+use borrow.Author.Tests.{eqb-false, eq-eqb, ne_eqb}
 use Rattle.model.specs.Tables.{Tables}
 use Rattle.model.specs.State.{State, mode_of}
 use Rattle.model.specs.Events.{Event, Call}
 use Rattle.model.specs.Services.{refuse, create, get_id, set_mode, use_own, service}
+use Rattle.events.specs.declared.codes.Code.{Code}
+use Rattle.events.specs.declared.codes.Code.TheVariants.{CreateSamplingPort, CreateQueuingPort, GetSamplingPortId, GetQueuingPortId, SetPartitionMode}
+use Rattle.events.specs.Shown.{number_of}
+
+-- a code that is none of these five has none of their numbers
+pub other-numbers : (c : Code) → (c ≡ CreateSamplingPort → ⊥) → (c ≡ CreateQueuingPort → ⊥) → (c ≡ GetSamplingPortId → ⊥) → (c ≡ GetQueuingPortId → ⊥) → (c ≡ SetPartitionMode → ⊥)
+    → ((number_of c ≡ 1) ⊎ (number_of c ≡ 6) → ⊥) × ((number_of c ≡ 4) ⊎ (number_of c ≡ 9) → ⊥) × (number_of c ≡ 12 → ⊥)
+other-numbers CreateSamplingPort not _ _ _ _ = absurd (not refl)
+other-numbers CreateQueuingPort _ not _ _ _ = absurd (not refl)
+other-numbers GetSamplingPortId _ _ not _ _ = absurd (not refl)
+other-numbers GetQueuingPortId _ _ _ not _ = absurd (not refl)
+other-numbers SetPartitionMode _ _ _ _ not = absurd (not refl)
+other-numbers c _ _ _ _ _ = (
+  ⊎_elim (eqb-false (number_of c) 1 refl) (eqb-false (number_of c) 6 refl),
+  ⊎_elim (eqb-false (number_of c) 4 refl) (eqb-false (number_of c) 9 refl),
+  eqb-false (number_of c) 12 refl,
+)
 
 module _ (t : Tables) (time : ℕ) (s : State) (p : ℕ) (e : Event) (f : Call) where
   pub by-idle : mode_of s p ≡ 0 → service t time s p e f ≡ refuse 15

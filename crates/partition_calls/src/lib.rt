@@ -5,43 +5,34 @@ ghost use Rattle.std.specs.Prelude.{◌<◌, length};
 ghost use Rattle.model.specs.Services.{service};
 ghost use Rattle.events.specs.Shown.{call_of};
 ghost use Rattle.service_contracts.specs.Did.{Held};
-ghost use Rattle.service_contracts.specs.Called.{Asked, Calls};
+ghost use Rattle.service_contracts.specs.Called.{Calls};
 
 use create_and_find::{create, get_id};
-use events::{
-    Answer, CREATE_QUEUING_PORT, CREATE_SAMPLING_PORT, Fields, GET_QUEUING_PORT_ID,
-    GET_SAMPLING_PORT_ID, SET_PARTITION_MODE,
-};
+use events::{Answer, Call, Code, IDLE, Refusal};
 use modes::set_mode;
 use own_ports::use_own;
-use service_contracts::Layout;
+use ports::Ports;
+use tables::Tables;
 
 pub fn service(
-    t: &[u8],
-    lay: Layout,
+    tables: Tables,
     modes: &mut [u8],
-    numbers: &mut [u32],
-    bytes: &mut [u8],
+    ports: &mut Ports,
     p: u8,
     time: u32,
-    event: &[u8],
-    f: Fields,
+    call: Call,
 ) -> Answer
-    requires held { Held t.now lay numbers.old bytes.old }
-    requires asked { Asked event.now (call_of f) }
+    requires held { Held tables.bytes.now ports.old.numbers ports.old.bytes }
     requires p_in_bounds { p < length modes.old }
-    ensures { Calls t.now (λ s. service t.now time s p event.now (call_of f)) p result modes.old numbers.old bytes.old modes.new numbers.new bytes.new }
+    ensures { Calls tables.entry.bytes.now (λ s. service tables.entry.bytes.now time s p call.entry.event.now (call_of call.entry)) p result modes.old ports.old.numbers ports.old.bytes modes.new ports.new.numbers ports.new.bytes }
 {
-    if modes[p as usize] == events::IDLE {
-        return events::refusal(events::CALLER_IDLE, p);
+    if modes[p as usize] == IDLE {
+        return events::refusal(Refusal::CallerIdle, p);
     }
-    let code = f.code;
-    match code {
-        CREATE_SAMPLING_PORT | CREATE_QUEUING_PORT => create(
-            t, lay, modes, numbers, bytes, p, event, f,
-        ),
-        GET_SAMPLING_PORT_ID | GET_QUEUING_PORT_ID => get_id(t, lay, numbers, bytes, p, event, f),
-        SET_PARTITION_MODE => set_mode(t, lay, modes, numbers, p, f.choice),
-        _ => use_own(t, lay, numbers, bytes, p, time, event, f),
+    match call.code {
+        Code::CreateSamplingPort | Code::CreateQueuingPort => create(tables, modes, ports, p, call),
+        Code::GetSamplingPortId | Code::GetQueuingPortId => get_id(tables, ports, p, call),
+        Code::SetPartitionMode => set_mode(tables, modes, ports, p, call.choice),
+        _ => use_own(tables, ports, p, time, call),
     }
 }

@@ -1,3 +1,3 @@
 pub mod Rows
-pub mod Ports
+pub mod PortAt
 pub mod Marks

@@ -9,7 +9,7 @@ use Rattle.stores.specs.Ring.{queue_of, dropped}
 use Rattle.stores.proofs.Laws.{queue-empty}
 use Rattle.ports.specs.Held.{row_of, block_of, store_in, store_at, port_at, RowPut, PortPut}
 use Rattle.ports.proofs.Rows.{row-again, row_is}
-use Rattle.ports.proofs.Ports.{port-put, block-kept, put_is}
+use Rattle.ports.proofs.PortAt.{port-put, block-kept, put_is}
 
 module _ (numbers bytes : List ℕ) (k : ℕ) where
   pub put-created : {numbers' : List ℕ} (v : ℕ) → RowPut numbers numbers' k (set (row_of numbers k) 0 v)

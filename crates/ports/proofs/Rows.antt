@@ -2,13 +2,13 @@
 -- Assumes nothing.
 use Prim.Native.Nat.{ℕ, zero, suc, ◌+◌, ◌-◌, ◌*◌, ◌≤◌, ◌<◌}
 use mathlib.Core.Path.{◌≡◌, refl, sym, ◌∙◌, ap, ap₂, subst}
-use mathlib.Core.List.{List, [], ◌∷◌, ◌++◌, append_assoc}
+use mathlib.Core.List.{List, ◌∷◌, ◌++◌, append_assoc}
 use mathlib.Core.Logic.{◌⊎◌, inl, inr, ⊎_elim}
 use native.Mathlib.Nat.{add-zero}
 use native.Mathlib.Omega.{arith}
 use lib.ListN.{length, get_or, take, drop, set, length-take, length-drop, get_or-append}
 use native.Mathlib.Numerals.{add-one}
-use lib.Seq.{get_or-set_same, get_or-set_other, ext_get_or, get_or-take, get_or-drop, take-suc, take-suc-set, paste, paste-zero, length-paste, length_paste_head, drop-paste, drop_at, take_at, take_all, length-take-le}
+use lib.Seq.{get_or-set_same, get_or-set_other, ext_get_or, get_or-take, get_or-drop, drop-cons, paste, paste-zero, length-paste, length_paste_head, drop-paste, drop_at, take_at, take_all, length-take-le}
 use Rattle.model.proofs.Tests.{three}
 use Rattle.stores.specs.Ring.{pasted}
 use Rattle.stores.proofs.Lists.{paste-pasted, paste-turn}
@@ -54,10 +54,17 @@ pub row-at : (numbers : List ℕ) (k j : ℕ) → j < 13 → get_or (row_of numb
 unfolding row_of
 row-at numbers k j h = numbers-at numbers 13 (13 * k) j h
 
--- a turn of a loop that fills a list from another: one more element is as there
-pub fill-next : (to from : List ℕ) (i : ℕ) → i < length to → i < length from → take i to ≡ take i from → take (i + 1) (set to i (get_or from i 0)) ≡ take (i + 1) from
-fill-next to from i l m e =
-    rw (add-one, take-suc-set to i (get_or from i 0) l, take-suc from i 0 m) (ap (λ x. x ++ get_or from i 0 ∷ []) e)
+-- the stretch as a part of the numbers
+numbers-part : (numbers : List ℕ) (n at : ℕ) → at + n ≤ length numbers → numbers_from numbers n at ≡ take n (drop at numbers)
+numbers-part numbers zero at h = refl
+numbers-part numbers (suc n) at h =
+    ap (λ rest. get_or numbers at 0 ∷ rest) (numbers-part numbers n (at + 1) (omega arith) ∙ ap (λ i. take n (drop i numbers)) (add-one at))
+    ∙ ap (take (suc n)) (sym (drop-cons numbers at 0 (omega arith)))
+
+-- the lengths of a port's row, as they stand
+pub lengths-at : (numbers : List ℕ) (k : ℕ) → length numbers ≡ 832 → k < 64 → take 8 (drop (13 * k + 5) numbers) ≡ drop 5 (row_of numbers k)
+unfolding row_of
+lengths-at numbers k l h = sym (ap (numbers_from numbers 8) (omega arith) ∙ numbers-part numbers 8 (13 * k + 5) (omega arith))
 
 -- outside of what is copied nothing changes
 pub paste-other : (d s : List ℕ) (at n i : ℕ) → at + n ≤ length d → n ≤ length s → (i < at) ⊎ (at + n ≤ i) → get_or (paste d at s n) i 0 ≡ get_or d i 0

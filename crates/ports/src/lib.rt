@@ -1,14 +1,14 @@
-// The ports of a state in two lent arrays, and the store of one of them taken out by value and put back.
+// The ports of a state: thirteen numbers and 512 message bytes for each, and the store of one of them taken out by value and put back.
 #![tactic(auto)]
 
-ghost use Rattle.std.specs.Prelude.{◌≡◌, ◌+◌, ◌*◌, ◌≤◌, ◌<◌, length, get_or, set, drop};
-ghost use Rattle.ports.specs.Held.{row_of, block_of, store_at, port_at, RowPut, PortPut};
+ghost use Rattle.std.specs.Prelude.{◌≡◌, ◌+◌, ◌≤◌, ◌<◌, length, get_or, set};
+ghost use Rattle.ports.specs.Held.{row_of, store_at, port_at, RowPut, PortPut};
 ghost use Rattle.model.specs.State.{with_queue};
 ghost use Rattle.stores.specs.Ring.{pasted, queue_of};
 
 use stores::{BLOCK_SIZE, SLOTS, Store};
 
-// Port rows, the numbers of one and of all, and the message bytes of all.
+// The numbers of one port and of all 64, and the message bytes of all.
 pub const ROW_SIZE: usize = 13;
 
 pub const ALL_NUMBERS: usize = 832;
@@ -29,96 +29,68 @@ pub const COUNT: usize = 4;
 // the first of the lengths in the eight slots
 pub const LENGTHS: usize = 5;
 
-// One of the thirteen numbers of port k.
-pub fn number(numbers: &[u32], k: usize, j: usize) -> u32
-    requires { (length numbers.now ≡ 832) × (k < 64) × (j < 13) }
-    ensures { result ≡ get_or (row_of numbers.now k) j 0 }
-{
-    numbers[ROW_SIZE * k + j]
+// The ports of a state, lent as one. Numbers and bytes of each port stand in two flat arrays: what may not change is the layout of a state
+// (`bytes_of`), which a host keeps. A port's number below 64 is asked for where it is used: a type for it would be made at each look-up, no plainer.
+#[derive(Clone, Copy)]
+pub struct Ports {
+    // thirteen numbers for each of 64 ports
+    pub numbers: [u32; ALL_NUMBERS],
+    // for each of them eight slots of 64 message bytes
+    pub bytes: [u8; ALL_BYTES],
 }
 
-pub fn set_number(numbers: &mut [u32], k: usize, j: usize, v: u32)
-    requires { (length numbers.old ≡ 832) × (k < 64) × (j < 13) }
-    ensures { RowPut numbers.old numbers.new k (set (row_of numbers.old k) j v) }
-{
-    numbers[ROW_SIZE * k + j] = v;
-}
-
-// The message bytes of port k.
-fn take_block(bytes: &[u8], k: usize) -> [u8; BLOCK_SIZE]
-    requires { (length bytes.now ≡ 32768) × (k < 64) }
-    ensures { result ≡ block_of bytes.now k }
-{
-    let at = BLOCK_SIZE * k;
-    let mut block = [0u8; BLOCK_SIZE];
-    let mut i: usize = 0;
-    while i < BLOCK_SIZE {
-        block[i] = bytes[at + i];
-        i = i + 1;
+impl Ports {
+    // One of the thirteen numbers of port k.
+    pub fn number(&self, k: usize, j: usize) -> u32
+        requires { (k < 64) × (j < 13) }
+        ensures { result ≡ get_or (row_of self.now.numbers k) j 0 }
+    {
+        self.numbers[ROW_SIZE * k + j]
     }
-    block
-}
 
-// The lengths in the eight slots of port k.
-fn take_lengths(numbers: &[u32], k: usize) -> [u32; SLOTS]
-    requires { (length numbers.now ≡ 832) × (k < 64) }
-    ensures { result ≡ drop 5 (row_of numbers.now k) }
-{
-    let mut lengths = [0u32; SLOTS];
-    let mut i: usize = 0;
-    while i < SLOTS {
-        lengths[i] = number(numbers, k, LENGTHS + i);
-        i = i + 1;
+    pub fn set_number(&mut self, k: usize, j: usize, v: u32)
+        requires { (k < 64) × (j < 13) }
+        ensures row { RowPut self.old.numbers self.new.numbers k (set (row_of self.old.numbers k) j v) }
+        ensures bytes { self.new.bytes ≡ self.old.bytes }
+    {
+        self.numbers[ROW_SIZE * k + j] = v;
     }
-    lengths
+
+    // The store of port k, taken out by value.
+    pub fn take_store(&self, k: usize) -> Store
+        requires { k < 64 }
+        ensures { result ≡ store_at self.now.numbers self.now.bytes k }
+    {
+        let row = ROW_SIZE * k;
+        let mut lengths = [0u32; SLOTS];
+        lengths.copy_from_slice(&self.numbers[row + LENGTHS..row + ROW_SIZE]);
+        let block = BLOCK_SIZE * k;
+        let mut bytes = [0u8; BLOCK_SIZE];
+        bytes.copy_from_slice(&self.bytes[block..block + BLOCK_SIZE]);
+        Store {
+            bytes,
+            lengths,
+            oldest: self.number(k, OLDEST),
+            count: self.number(k, COUNT),
+        }
+    }
+
+    // The store put back: port k holds its messages, and all else stays. It is lent: by value its arrays would be copied once more.
+    pub fn put_store(&mut self, k: usize, st: &Store)
+        requires { k < 64 }
+        ensures { PortPut self.old.numbers self.old.bytes self.new.numbers self.new.bytes k (with_queue (port_at self.old.numbers self.old.bytes k) (queue_of st.now)) }
+    {
+        self.set_number(k, OLDEST, st.oldest);
+        self.set_number(k, COUNT, st.count);
+        lay(&mut self.numbers, ROW_SIZE * k + LENGTHS, &st.lengths);
+        lay(&mut self.bytes, BLOCK_SIZE * k, &st.bytes);
+    }
 }
 
-// Numbers copied over those that stand from `at` on.
-pub fn lay_numbers(to: &mut [u32], at: usize, part: &[u32])
+// Elements copied over those that stand from `at` on. A host lays a buffer with it too.
+pub fn lay<T: Copy>(to: &mut [T], at: usize, part: &[T])
     requires { at + length part.now ≤ length to.old }
     ensures { to.new ≡ pasted to.old at part.now }
 {
-    let mut i: usize = 0;
-    while i < part.len() {
-        to[at + i] = part[i];
-        i = i + 1;
-    }
-}
-
-// The same of bytes; a host lays a buffer with it too.
-pub fn lay_bytes(to: &mut [u8], at: usize, part: &[u8])
-    requires { at + length part.now ≤ length to.old }
-    ensures { to.new ≡ pasted to.old at part.now }
-{
-    let mut i: usize = 0;
-    while i < part.len() {
-        to[at + i] = part[i];
-        i = i + 1;
-    }
-}
-
-// The store of port k, taken out by value.
-pub fn take_store(numbers: &[u32], bytes: &[u8], k: usize) -> Store
-    requires { (length numbers.now ≡ 832) × (length bytes.now ≡ 32768) × (k < 64) }
-    ensures { result ≡ store_at numbers.now bytes.now k }
-{
-    let block = take_block(bytes, k);
-    let lengths = take_lengths(numbers, k);
-    Store {
-        bytes: block,
-        lengths,
-        oldest: number(numbers, k, OLDEST),
-        count: number(numbers, k, COUNT),
-    }
-}
-
-// The store put back: port k holds its messages, and all else stays. Its arrays are lent: by value they would be copied once more.
-pub fn put_store(numbers: &mut [u32], bytes: &mut [u8], k: usize, st: Store)
-    requires { (length numbers.old ≡ 832) × (length bytes.old ≡ 32768) × (k < 64) }
-    ensures { PortPut numbers.old bytes.old numbers.new bytes.new k (with_queue (port_at numbers.old bytes.old k) (queue_of st)) }
-{
-    set_number(numbers, k, OLDEST, st.oldest);
-    set_number(numbers, k, COUNT, st.count);
-    lay_numbers(numbers, ROW_SIZE * k + LENGTHS, &st.lengths);
-    lay_bytes(bytes, BLOCK_SIZE * k, &st.bytes);
+    to[at..at + part.len()].copy_from_slice(part);
 }

@@ -1,7 +1,8 @@
 -- The model's 3, 8 and 11 case by case, each from the tests that lead to it.
 -- Assumes nothing.
 use Prim.Native.Nat.{ℕ}
-use mathlib.Core.Path.{◌≡◌}
+use mathlib.Core.Path.{◌≡◌, refl}
+use native.Mathlib.Omega.{arith}
 use mathlib.Core.Bool.{true, false}
 use mathlib.Core.List.{List, [], ◌∷◌}
 use borrow.Author.Tests.{eq-eqb, ne_eqb}
@@ -9,6 +10,9 @@ use Rattle.model.specs.Tables.{Row}
 use Rattle.model.specs.State.{Message, Port, with_queue, valid}
 use Rattle.model.specs.Events.{Call, need}
 use Rattle.model.specs.Answers.{nothing_told, told_message}
+use Rattle.events.specs.declared.codes.Code.{Code}
+use Rattle.events.specs.declared.codes.Code.TheVariants.{ReadSamplingMessage}
+use Rattle.events.specs.Shown.{number_of}
 use Rattle.model.specs.Services.{refuses, serves, directed, mark, read_oldest, take_oldest, get, cleared}
 
 -- 3
@@ -17,6 +21,11 @@ pub read_some : (refresh time : ℕ) (q : Port) {queue : List Message} (m : Mess
     ≡ serves (told_message m (mark (valid refresh time q.arrival)))
     (record { created = q.created; arrival = q.arrival; validity = mark (valid refresh time q.arrival); queue = q.queue })
 read_some refresh time q m rest e = rw e
+
+-- 3 alone is the code of a read
+pub not-read : (c : Code) → (c ≡ ReadSamplingMessage → ⊥) → number_of c ≡ 3 → ⊥
+not-read ReadSamplingMessage n e = n refl
+not-read _ n e = absurd (omega arith)
 
 -- 3 and 8: the direction, then the code
 module _ (time : ℕ) (r : Row) (f : Call) (q : Port) where

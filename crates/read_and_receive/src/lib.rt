@@ -1,36 +1,30 @@
 // A message read, received or cleared at a destination port.
 #![tactic(auto)]
 
-ghost use Rattle.std.specs.Prelude.{◌≡◌, true, []};
+ghost use Rattle.std.specs.Prelude.{◌≡◌, ◌≤◌, ◌<◌, length, []};
 ghost use Rattle.model.specs.State.{Message, valid};
-ghost use Rattle.model.specs.Events.{known};
 ghost use Rattle.model.specs.Answers.{told_message};
 ghost use Rattle.model.specs.Services.{mark, read_oldest, take_oldest, get, cleared};
 ghost use Rattle.tables.specs.Shown.{row_of};
 ghost use Rattle.events.specs.Shown.{call_of, told_as};
 ghost use Rattle.stores.specs.Ring.{Sized, letter_of};
 ghost use Rattle.ports.specs.Held.{store_at, port_at};
-ghost use Rattle.service_contracts.specs.Served.{Lent, Fits, Serves, TakesOldest};
+ghost use Rattle.service_contracts.specs.Served.{Fits, Serves, TakesOldest};
 
-use events::{Answer, Fields};
+use events::{Answer, Call, Code, Refusal};
+use ports::{ARRIVAL, COUNT, OLDEST, Ports, VALIDITY};
 use stores::Letter;
 use tables::PortRow;
 
 // A message handed out, with a validity.
-fn told_message(doer: u8, l: Letter, validity: u8) -> Answer
-    ensures { (m : Message) → l ≡ letter_of m → result ≡ told_as doer (told_message m validity) }
+fn told_message(doer: u8, letter: &Letter, validity: u8) -> Answer
+    ensures { (m : Message) → length m ≤ 64 → letter.now ≡ letter_of m → result ≡ told_as doer (told_message m validity) }
 {
-    let message = l.bytes;
     Answer {
-        code: events::NO_ERROR,
-        doer,
-        id: 0,
-        number: 0,
-        size: l.size,
+        size: letter.size,
         validity,
-        direction: 0,
-        depth: 0,
-        message,
+        message: letter.bytes,
+        ..events::done(doer)
     }
 }
 
@@ -38,95 +32,78 @@ fn told_message(doer: u8, l: Letter, validity: u8) -> Answer
 fn validity(refresh: u32, time: u32, arrival: u32) -> u8
     ensures { result ≡ mark (valid refresh time arrival) }
 {
-    if events::age(time, arrival) <= refresh {
-        1
-    } else {
-        0
-    }
+    u8::from(events::age(time, arrival) <= refresh)
 }
 
 // The oldest message of a port that holds one, removed. Its bytes stay in their slot, which no longer counts.
-pub fn take_oldest(numbers: &mut [u32], bytes: &[u8], k: usize) -> Letter
-    requires lent { Lent numbers.old bytes.now k × Sized (store_at numbers.old bytes.now k) }
-    requires fact { (port_at numbers.old bytes.now k).queue ≡ [] → ⊥ }
-    ensures { TakesOldest numbers.old bytes.now numbers.new k result }
+pub fn take_oldest(ports: &mut Ports, k: usize) -> Letter
+    requires there { k < 64 }
+    requires sized { Sized (store_at ports.old.numbers ports.old.bytes k) }
+    requires fact { (port_at ports.old.numbers ports.old.bytes k).queue ≡ [] → ⊥ }
+    ensures taken { TakesOldest ports.old.numbers ports.old.bytes ports.new.numbers k result }
+    ensures bytes_kept { ports.new.bytes ≡ ports.old.bytes }
 {
-    let st = ports::take_store(numbers, bytes, k);
-    let rest = stores::drop_oldest(st);
-    ports::set_number(numbers, k, ports::OLDEST, rest.oldest);
-    ports::set_number(numbers, k, ports::COUNT, rest.count);
-    stores::oldest(st)
+    let st = ports.take_store(k);
+    let mut rest = st;
+    rest.drop_oldest();
+    ports.set_number(k, OLDEST, rest.oldest);
+    ports.set_number(k, COUNT, rest.count);
+    st.oldest()
 }
 
 // 3: empty, 1; else message and validity, which becomes the last validity; the message stays.
-fn read(numbers: &mut [u32], bytes: &[u8], k: usize, row: PortRow, time: u32, doer: u8) -> Answer
-    requires { Fits numbers.old bytes.now k row }
-    ensures { Serves numbers.old bytes.now numbers.new bytes.now k doer result (read_oldest (row_of row).refresh time (port_at numbers.old bytes.now k) (port_at numbers.old bytes.now k).queue) }
+fn read(ports: &mut Ports, k: usize, row: PortRow, time: u32, doer: u8) -> Answer
+    requires { Fits ports.old.numbers ports.old.bytes k row }
+    ensures served { Serves ports.old.numbers ports.old.bytes ports.new.numbers ports.new.bytes k doer result (read_oldest (row_of row).refresh time (port_at ports.old.numbers ports.old.bytes k) (port_at ports.old.numbers ports.old.bytes k).queue) }
+    ensures kept { ports.new.bytes ≡ ports.old.bytes }
 {
-    if ports::number(numbers, k, ports::COUNT) == 0 {
-        return events::refusal(events::NO_ACTION, doer);
+    if ports.number(k, COUNT) == 0 {
+        return events::refusal(Refusal::NoAction, doer);
     }
-    let l = stores::oldest(ports::take_store(numbers, bytes, k));
-    let transfer = row.transfer;
-    let v = validity(
-        tables::refresh(transfer),
-        time,
-        ports::number(numbers, k, ports::ARRIVAL),
-    );
-    ports::set_number(numbers, k, ports::VALIDITY, v as u32);
-    told_message(doer, l, v)
+    let letter = ports.take_store(k).oldest();
+    let v = validity(row.transfer.refresh(), time, ports.number(k, ARRIVAL));
+    ports.set_number(k, VALIDITY, u32::from(v));
+    told_message(doer, &letter, v)
 }
 
 // 8: empty, 2; else the oldest message, removed.
-fn receive(numbers: &mut [u32], bytes: &[u8], k: usize, doer: u8) -> Answer
-    requires { Lent numbers.old bytes.now k × Sized (store_at numbers.old bytes.now k) }
-    ensures { Serves numbers.old bytes.now numbers.new bytes.now k doer result (take_oldest (port_at numbers.old bytes.now k) (port_at numbers.old bytes.now k).queue) }
+fn receive(ports: &mut Ports, k: usize, doer: u8) -> Answer
+    requires there { k < 64 }
+    requires sized { Sized (store_at ports.old.numbers ports.old.bytes k) }
+    ensures served { Serves ports.old.numbers ports.old.bytes ports.new.numbers ports.new.bytes k doer result (take_oldest (port_at ports.old.numbers ports.old.bytes k) (port_at ports.old.numbers ports.old.bytes k).queue) }
+    ensures kept { ports.new.bytes ≡ ports.old.bytes }
 {
-    if ports::number(numbers, k, ports::COUNT) == 0 {
-        return events::refusal(events::NOT_AVAILABLE, doer);
+    if ports.number(k, COUNT) == 0 {
+        return events::refusal(Refusal::NotAvailable, doer);
     }
-    told_message(doer, take_oldest(numbers, bytes, k), 0)
+    let letter = take_oldest(ports, k);
+    told_message(doer, &letter, 0)
 }
 
 // 3 and 8: not a destination, 5.
-pub fn get(
-    numbers: &mut [u32],
-    bytes: &[u8],
-    k: usize,
-    row: PortRow,
-    time: u32,
-    f: Fields,
-    doer: u8,
-) -> Answer
-    requires fits { Fits numbers.old bytes.now k row }
-    requires code_value { known f.code ≡ true }
-    ensures { Serves numbers.old bytes.now numbers.new bytes.now k doer result (get time (row_of row) (call_of f) (port_at numbers.old bytes.now k)) }
+pub fn get(ports: &mut Ports, k: usize, row: PortRow, time: u32, call: Call, doer: u8) -> Answer
+    requires { Fits ports.old.numbers ports.old.bytes k row }
+    ensures served { Serves ports.old.numbers ports.old.bytes ports.new.numbers ports.new.bytes k doer result (get time (row_of row) (call_of call.entry) (port_at ports.old.numbers ports.old.bytes k)) }
+    ensures kept { ports.new.bytes ≡ ports.old.bytes }
 {
-    if !events::directed(f.code, row.direction) {
-        return events::refusal(events::INVALID_MODE, doer);
+    if !events::directed(call.code, row.direction) {
+        return events::refusal(Refusal::InvalidMode, doer);
     }
-    if f.code == events::READ_SAMPLING_MESSAGE {
-        return read(numbers, bytes, k, row, time, doer);
+    match call.code {
+        Code::ReadSamplingMessage => read(ports, k, row, time, doer),
+        _ => receive(ports, k, doer),
     }
-    receive(numbers, bytes, k, doer)
 }
 
 // 11: not a destination, 5; else emptied.
-pub fn clear(
-    numbers: &mut [u32],
-    bytes: &[u8],
-    k: usize,
-    row: PortRow,
-    f: Fields,
-    doer: u8,
-) -> Answer
-    requires fits { Fits numbers.old bytes.now k row }
-    requires code_value { known f.code ≡ true }
-    ensures { Serves numbers.old bytes.now numbers.new bytes.now k doer result (cleared (row_of row) (call_of f) (port_at numbers.old bytes.now k)) }
+pub fn clear(ports: &mut Ports, k: usize, row: PortRow, call: Call, doer: u8) -> Answer
+    requires { Fits ports.old.numbers ports.old.bytes k row }
+    ensures served { Serves ports.old.numbers ports.old.bytes ports.new.numbers ports.new.bytes k doer result (cleared (row_of row) (call_of call.entry) (port_at ports.old.numbers ports.old.bytes k)) }
+    ensures kept { ports.new.bytes ≡ ports.old.bytes }
 {
-    if !events::directed(f.code, row.direction) {
-        return events::refusal(events::INVALID_MODE, doer);
+    if !events::directed(call.code, row.direction) {
+        return events::refusal(Refusal::InvalidMode, doer);
     }
-    ports::set_number(numbers, k, ports::COUNT, 0);
+    ports.set_number(k, COUNT, 0);
     events::done(doer)
 }

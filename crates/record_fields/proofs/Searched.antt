@@ -1,4 +1,4 @@
--- The tests that the searches carry out, by name, and the search as its loop begins it: up to an end, from where it stands.
+-- The tests that the searches carry out, by name.
 -- Assumes nothing.
 use Prim.Native.Nat.{ℕ, suc, ◌+◌, ◌-◌}
 use mathlib.Core.Path.{◌≡◌}
@@ -7,7 +7,7 @@ use native.Mathlib.Numerals.{add-one}
 use native.Mathlib.Omega.{arith}
 use lib.Dec.{eqb}
 use Rattle.model.specs.Words.{all, byte}
-use Rattle.model.specs.Tables.{Tables, end_at}
+use Rattle.model.specs.Tables.{Tables, start, name_start, end_at}
 use Rattle.record_fields.specs.Pieces.{unused_blank}
 
 -- an id of a channel is zero
@@ -23,3 +23,10 @@ unused-whole t r count = rw (add-one, after-count)
 -- after a zero of a name comes a zero
 abbrev pub follows : Tables → ℕ → ℕ → Bool
 follows t at k = not (eqb (byte t (at + k)) 0) || eqb (byte t (at + suc k)) 0
+
+-- where byte k of a record's name stands, and the byte after it
+pub here : (r k : ℕ) → name_start r + k ≡ start r + (16 + k)
+here r k = omega arith
+
+pub next : (r k : ℕ) → name_start r + suc k ≡ start r + (16 + k + 1)
+next r k = omega arith

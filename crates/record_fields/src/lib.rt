@@ -20,3 +20,6 @@ pub const DEEPEST: u32 = 8;
 pub const LONGEST_PERIOD: u32 = 1_000_000;
 
 pub const MOST_DESTINATIONS: u32 = 8;
+
+// A channel's ends: its source and eight destinations.
+pub const ENDS: usize = 9;

@@ -1,25 +1,24 @@
 // Refusal 23: a field outside its range, or a byte outside a port's name that should be zero. The fields are read as they stand.
-ghost use Rattle.std.specs.Prelude.{if◌then◌else◌, ◌<◌, ◌≡◌, ◌&&◌, ◌||◌, leb, eqb};
+ghost use Rattle.std.specs.Prelude.{if◌then◌else◌, ◌≡◌, ◌&&◌, ◌||◌, leb, eqb};
 ghost use Rattle.model.specs.Words.{between};
-ghost use Rattle.model.specs.Tables.{records, mover, sampling, queuing, destination, row_at};
+ghost use Rattle.model.specs.Tables.{mover, sampling, queuing, destination, row_at};
 ghost use Rattle.model.specs.Load.{window_fits, row_fits, port_fits, channel_fits, field_fault};
 ghost use Rattle.record_fields.specs.Pieces.{unused_blank};
 
 use super::{
-    DEEPEST, LAST_PARTITION, LONGEST_MESSAGE, LONGEST_PERIOD, LONGEST_WINDOW, MOST_DESTINATIONS,
+    DEEPEST, ENDS, LAST_PARTITION, LONGEST_MESSAGE, LONGEST_PERIOD, LONGEST_WINDOW,
+    MOST_DESTINATIONS,
 };
 use tables::{
-    CHANNEL_END, CHANNEL_REST, COUNT_AT, DEPTH_AT, DESTINATION, DIRECTION_AT, LARGEST_AT, MODE_AT,
-    MOVER, OWNER_AT, PORT_END, PORT_KIND, PORT_REST, QUEUING, RECORD_SIZE, REFRESH_AT, SAMPLING,
-    WINDOW_END, WINDOW_KIND, WINDOW_REST, blank, id_at, kind, wide, window_length,
-    window_partition, word32,
+    CHANNEL_END, CHANNEL_REST, DESTINATION, MOVER, PORT_END, PORT_REST, QUEUING, Record,
+    RecordKind, SAMPLING, WINDOW_END, WINDOW_REST,
 };
 
 // low ≤ x ≤ high
 pub fn between(low: u32, high: u32, x: u32) -> bool
     ensures { result ≡ between low high x }
 {
-    low <= x && x <= high
+    (low..=high).contains(&x)
 }
 
 fn partition_fits(partition: u8) -> bool
@@ -28,17 +27,13 @@ fn partition_fits(partition: u8) -> bool
     partition <= LAST_PARTITION || partition == MOVER
 }
 
-fn window_fits(t: &[u8], r: usize) -> bool
-    requires { r < records t.now }
-    ensures { result ≡ window_fits t.now r }
+#[tactic(auto, unfolding(model::specs::Load::window_fits))]
+fn window_fits(record: Record) -> bool
+    ensures { result ≡ window_fits «record».entry.tables.bytes.now «record».entry.number }
 {
-    if !partition_fits(window_partition(t, r)) {
-        return false;
-    }
-    if !between(1, LONGEST_WINDOW, window_length(t, r)) {
-        return false;
-    }
-    blank(t, WINDOW_REST, RECORD_SIZE * r + WINDOW_END)
+    partition_fits(record.partition())
+        && between(1, LONGEST_WINDOW, record.length())
+        && record.blank(WINDOW_REST, WINDOW_END)
 }
 
 // 1..8 for queuing, 0 for sampling.
@@ -70,77 +65,51 @@ fn refresh_fits(mode: u8, direction: u8, refresh: u32) -> bool
     }
 }
 
-fn row_fits(t: &[u8], r: usize) -> bool
-    requires { r < records t.now }
-    ensures { result ≡ row_fits (row_at t.now r) }
+#[tactic(auto, unfolding(model::specs::Load::row_fits))]
+fn row_fits(record: Record) -> bool
+    ensures { result ≡ row_fits (row_at «record».entry.tables.bytes.now «record».entry.number) }
 {
-    let at = RECORD_SIZE * r;
-    let mode = t[at + MODE_AT];
-    let direction = t[at + DIRECTION_AT];
-    if LAST_PARTITION < t[at + OWNER_AT] {
-        return false;
-    }
-    if QUEUING < mode {
-        return false;
-    }
-    if DESTINATION < direction {
-        return false;
-    }
-    if !between(1, LONGEST_MESSAGE, word32(t, at + LARGEST_AT)) {
-        return false;
-    }
-    if !depth_fits(mode, word32(t, at + DEPTH_AT)) {
-        return false;
-    }
-    refresh_fits(mode, direction, word32(t, at + REFRESH_AT))
+    let mode = record.mode();
+    let direction = record.direction();
+    record.owner() <= LAST_PARTITION
+        && mode <= QUEUING
+        && direction <= DESTINATION
+        && between(1, LONGEST_MESSAGE, record.largest())
+        && depth_fits(mode, record.depth())
+        && refresh_fits(mode, direction, record.refresh())
 }
 
-fn port_fits(t: &[u8], r: usize) -> bool
-    requires { r < records t.now }
-    ensures { result ≡ port_fits t.now r }
+#[tactic(auto, unfolding(model::specs::Load::port_fits))]
+fn port_fits(record: Record) -> bool
+    ensures { result ≡ port_fits «record».entry.tables.bytes.now «record».entry.number }
 {
-    row_fits(t, r) && blank(t, PORT_REST, RECORD_SIZE * r + PORT_END)
+    row_fits(record) && record.blank(PORT_REST, PORT_END)
 }
 
 // The ids past a channel's count, of the eight at ends 1 to 8, are zero.
-fn unused_blank(t: &[u8], r: usize, count: u8) -> bool
-    requires { r < records t.now }
-    ensures { result ≡ unused_blank t.now r count }
+fn unused_blank(record: Record, count: u8) -> bool
+    ensures { result ≡ unused_blank «record».entry.tables.bytes.now «record».entry.number count }
 {
-    let mut j = count as usize + 1;
-    while j < 9 {
-        if id_at(t, r, j) != 0 {
-            return false;
-        }
-        j += 1;
-    }
-    true
+    (usize::from(count) + 1..ENDS).all(|j| record.id(j) == 0)
 }
 
-fn channel_fits(t: &[u8], r: usize) -> bool
-    requires { r < records t.now }
-    ensures { result ≡ channel_fits t.now r }
+#[tactic(auto, unfolding(model::specs::Load::channel_fits))]
+fn channel_fits(record: Record) -> bool
+    ensures { result ≡ channel_fits «record».entry.tables.bytes.now «record».entry.number }
 {
-    let count = t[RECORD_SIZE * r + COUNT_AT];
-    if !between(1, MOST_DESTINATIONS, wide(count)) {
-        return false;
-    }
-    if !unused_blank(t, r, count) {
-        return false;
-    }
-    blank(t, CHANNEL_REST, RECORD_SIZE * r + CHANNEL_END)
+    let count = record.count();
+    between(1, MOST_DESTINATIONS, u32::from(count))
+        && unused_blank(record, count)
+        && record.blank(CHANNEL_REST, CHANNEL_END)
 }
 
-pub fn field_fault(t: &[u8], r: usize) -> bool
-    requires { r < records t.now }
-    ensures { result ≡ field_fault t.now r }
+#[tactic(auto, unfolding(model::specs::Load::field_fault))]
+pub fn field_fault(record: Record) -> bool
+    ensures { result ≡ field_fault «record».entry.tables.bytes.now «record».entry.number }
 {
-    let k = kind(t, r);
-    if k == WINDOW_KIND {
-        return !window_fits(t, r);
+    match record.counts_as() {
+        RecordKind::Window => !window_fits(record),
+        RecordKind::Port => !port_fits(record),
+        RecordKind::Channel => !channel_fits(record),
     }
-    if k == PORT_KIND {
-        return !port_fits(t, r);
-    }
-    !channel_fits(t, r)
 }

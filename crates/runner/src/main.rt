@@ -2,30 +2,17 @@
 // reading and writing stand here: the kernel loads, and the crate `runner_text` has the text of a turn.
 #![tactic(auto)]
 
-ghost use Rattle.std.specs.Prelude.{◌^◌, ◌≤◌, ◌<◌, ◌≡◌, true, length, take, IsNone};
-ghost use Rattle.std.specs.Io.KnownBytes.{Consumes, IsAtEnd};
+ghost use Rattle.std.specs.Prelude.{◌^◌, ◌≤◌, ◌<◌, ◌≡◌, true, length, IfOk, IfSome};
 ghost use Rattle.states.specs.Shown.{is_sound};
+ghost use Rattle.reading.specs.Came.{came as bytes_came};
 
-use loader::Verdict;
+use loader::Refused;
+use reading::{Unread, came, read_full};
 use runner_text::{MOST_TABLES, TURN, TURN_SIZE, TURN_TEXT};
 use states::State;
 use std::fs::Files;
 use std::io::Read;
 use std::{fs, io};
-
-// What came of a reader: how many bytes, and why no more where it failed.
-#[derive(Drop)]
-struct Came {
-    got: usize,
-    failure: Option<io::Error>,
-}
-
-// What a turn leaves: the state, and whether there may be more events.
-#[derive(Drop)]
-struct Taken {
-    state: State,
-    more: bool,
-}
 
 // Tells standard error what could not be read or written, and why, in the words of the system, without the number that stands after them. Where
 // standard error cannot be written either, there is nobody to tell.
@@ -39,164 +26,105 @@ fn tell(rt: &(impl Eprint + AllocGlobal), what: &str, failure: io::Error) {
     };
 }
 
-// Reads until the buffer is full, the input ends or a read fails. A read that gives less than there is room for is no end.
-fn read_full<I: Read>(input: &mut I, buffer: &mut [u8]) -> Came
-    ensures within { result.got ≤ length buffer.new }
-    ensures bytes { Consumes (I.remaining input.old) (I.remaining input.new) (take result.got buffer.new) }
-    ensures end { IsNone result.failure → result.got < length buffer.new → IsAtEnd (I.remaining input.new) }
-{
-    let mut got = 0;
-    while got < buffer.len() {
-        match input.read(&mut buffer[got..]) {
-            Ok(0) => break,
-            Ok(more) => got += more,
-            Err(failure) => {
-                return Came {
-                    got,
-                    failure: Some(failure),
-                };
-            }
-        }
-    }
-    Came { got, failure: None }
-}
-
 // Reads on in a file, and answers how many bytes came.
-fn skip_some<F: Read>(file: &mut F) -> Came
-    ensures { result.got ≤ 65536 }
+fn skip_some<F: Read>(file: &mut F) -> Result<usize, Unread>
+    ensures { bytes_came result ≤ 65536 }
 {
     let mut buffer = [0u8; 65_536];
     read_full(file, &mut buffer)
 }
 
 // How many bytes are left in a file. A proved loop has to end, and nothing says that a file does: it counts its turns.
-fn rest<F: Read>(file: &mut F) -> Came
-    ensures { result.got ≤ 2 ^ 63 }
+fn rest<F: Read>(file: &mut F) -> Result<usize, Unread>
+    ensures { bytes_came result ≤ 2 ^ 63 }
 {
     let mut got: usize = 0;
     for _ in 0..0x4000_0000_0000u64 {
-        let more = skip_some(file);
-        got += more.got;
-        if more.got == 0 || more.failure.is_some() {
-            return Came {
-                got,
-                failure: more.failure,
-            };
+        match skip_some(file) {
+            Ok(0) => break,
+            Ok(more) => got += more,
+            Err(unread) => return Err(unread.after(got)),
         }
     }
-    Came { got, failure: None }
+    Ok(got)
 }
 
-// Reads the start of a file, and answers the length of all of it.
-fn read_start<F: Read>(file: &mut F, t: &mut [u8]) -> Came
+// Reads the start of tables.bin, and answers the file's length.
+fn read_tables(rt: &impl Files, t: &mut [u8]) -> Result<usize, Unread>
     requires { length t.old ≤ 7728 }
 {
-    let start = read_full(file, t);
-    if start.failure.is_some() {
-        return start;
-    }
-    let left = rest(file);
-    Came {
-        got: start.got + left.got,
-        failure: left.failure,
-    }
+    let mut file = fs::open(rt, "tables.bin")?;
+    let start = read_full(&mut file, t)?;
+    let left = rest(&mut file).map_err(|unread| unread.after(start))?;
+    Ok(start + left)
 }
 
-// Where a file ended because it could no longer be read, as a folder cannot from its start, standard error is told why.
-fn tell_unread(rt: &(impl Eprint + AllocGlobal), what: &str, failure: Option<io::Error>) {
-    if let Some(failure) = failure {
-        tell(rt, what, failure);
-    }
-}
-
-// Reads the start of tables.bin, and answers the file's length, or 0 where it cannot be opened; standard error is told why.
-fn read_tables(rt: &(impl Files + Eprint + AllocGlobal), t: &mut [u8]) -> usize
+// The length of tables.bin, whose start is read. Where the file cannot be opened, or no more be read of it, as of a folder, it counts as ended
+// there, and standard error is told why.
+fn tables_length(rt: &(impl Files + Eprint + AllocGlobal), t: &mut [u8]) -> usize
     requires { length t.old ≤ 7728 }
 {
-    match fs::open(rt, "tables.bin") {
-        Ok(mut file) => {
-            let came = read_start(&mut file, t);
-            tell_unread(rt, "tables.bin", came.failure);
-            came.got
-        }
-        Err(failure) => {
-            tell(rt, "tables.bin", failure);
-            0
+    match read_tables(rt, t) {
+        Ok(size) => size,
+        Err(unread) => {
+            tell(rt, "tables.bin", unread.failure);
+            unread.got
         }
     }
 }
 
-// Writes to standard output; where that fails, standard error is told why.
-fn print(rt: &(impl Print + Eprint + AllocGlobal), text: &[u8]) -> bool {
-    match rt.write_all(text) {
-        Ok(()) => true,
-        Err(failure) => {
-            tell(rt, "standard output", failure);
-            false
-        }
-    }
-}
-
-fn print_refusal(rt: &(impl Print + Eprint + AllocGlobal), number: u8, place: usize) {
+fn print_refusal(rt: &impl Print, refused: Refused) -> io::Result<()> {
     let mut text = [0u8; 60];
-    let end = runner_text::tables_refused(number, place, &mut text);
-    print(rt, &text[..end]);
+    let end = runner_text::tables_refused(refused.fault.number(), refused.record, &mut text);
+    rt.write_all(&text[..end])
 }
 
-// Reads at most 400 records, and prints the text of what was read. The input may go on where all of them came.
+// Reads at most 400 records, and prints the text of what was read. Where all of them came the input may go on: the answer is the state that the next
+// turn starts from. Where reading fails, what came before is answered, and nobody is told.
 fn take_turn<I: Read>(
-    rt: &(impl Print + Eprint + AllocGlobal),
+    rt: &impl Print,
     input: &mut I,
     t: &[u8],
     state: State,
     turns: u64,
-) -> Taken
+) -> io::Result<Option<State>>
     requires { (is_sound t.now state ≡ true) × (turns < 2 ^ 54) }
-    ensures { is_sound t.now result.state ≡ true }
+    ensures { IfOk result (λ next. IfSome next (λ after. is_sound t.now after ≡ true)) }
 {
     let mut events = [0u8; TURN_SIZE];
-    let came = read_full(input, &mut events);
+    let got = came(read_full(input, &mut events));
     let mut text = [0u8; TURN_TEXT];
-    let turned = runner_text::turn_text(t, state, TURN * turns, &events[..came.got], &mut text);
-    let end = turned.end;
-    let is_written = print(rt, &text[..end]);
-    let after = turned.state;
-    Taken {
-        state: after,
-        more: is_written && came.got == TURN_SIZE,
-    }
+    let turned = runner_text::turn_text(t, state, TURN * turns, &events[..got], &mut text);
+    rt.write_all(&text[..turned.end])?;
+    Ok((got == TURN_SIZE).then_some(turned.state))
 }
 
 // One turn after another, to the end of the input, or of the number of turns, which no input reaches.
-fn run_all<I: Read>(
-    rt: &(impl Print + Eprint + AllocGlobal),
-    input: &mut I,
-    t: &[u8],
-    loaded: State,
-)
+fn run_all<I: Read>(rt: &impl Print, input: &mut I, t: &[u8], loaded: State) -> io::Result<()>
     requires { is_sound t.now loaded ≡ true }
 {
     let mut state = loaded;
     for turns in 0..0x40_0000_0000_0000u64 {
-        let taken = take_turn(rt, input, t, state, turns);
-        if !taken.more {
-            return;
-        }
-        state = taken.state;
+        let Some(after) = take_turn(rt, input, t, state, turns)? else {
+            break;
+        };
+        state = after;
+    }
+    Ok(())
+}
+
+fn run_tables<I: Read>(rt: &impl Print, input: &mut I, t: &[u8]) -> io::Result<()> {
+    match kernel::load(t) {
+        Ok(loaded) => run_all(rt, input, t, loaded),
+        Err(refused) => print_refusal(rt, refused),
     }
 }
 
-fn run_tables<I: Read>(rt: &(impl Print + Eprint + AllocGlobal), input: &mut I, t: &[u8]) {
-    let loaded = kernel::load(t);
-    let verdict = loaded.verdict;
-    match verdict {
-        Verdict::Accepted => run_all(rt, input, t, loaded.state),
-        Verdict::Refused(number, place) => print_refusal(rt, number, place),
-    }
-}
-
+// Where standard output cannot be written, the run ends there, and standard error is told why.
 fn main(rt: HostRuntime) {
     let mut t = [0u8; MOST_TABLES];
-    let size = runner_text::loaded_length(read_tables(&rt, &mut t));
-    run_tables(&rt, &mut rt.stdin(), &t[..size]);
+    let size = runner_text::loaded_length(tables_length(&rt, &mut t));
+    if let Err(failure) = run_tables(&rt, &mut rt.stdin(), &t[..size]) {
+        tell(&rt, "standard output", failure);
+    }
 }

@@ -3,18 +3,14 @@ use Prim.Native.Nat.{ℕ, zero, suc, ◌+◌, ◌-◌, ◌/◌, ◌%◌, ◌≤�
 use mathlib.Core.Path.{◌≡◌, refl, sym, ap, ap₂, ◌∙◌, subst}
 use mathlib.Core.List.{List, [], ◌∷◌, ◌++◌, append_assoc}
 use native.Mathlib.Nat.{add_assoc, add-zero}
-use native.Mathlib.Numerals.{add-one, sub-one}
 use native.Mathlib.Omega.{arith}
-use lib.ListN.{length, take, drop, get_or, set, length-append, take-append-drop}
-use lib.Seq.{take_at, drop-append-add, drop-drop, set_split, take-suc, length-take-le}
+use lib.ListN.{length, take, drop, length-append, length-take, length-drop, take-append-drop}
+use lib.Seq.{take_at, drop-append-add, drop-drop, length-take-le}
 use borrow.Author.Tests.{lt-ltb, le-ltb}
-use Rattle.runner_text.specs.Text.{digits, hex, hex_byte}
-use Rattle.runner_text.specs.Wrote.{put, Wrote}
-
--- one character stored
-pub put-letter : (out : List ℕ) (at c : ℕ) → at < length out → set out at c ≡ put out at (c ∷ [])
-unfolding put
-put-letter out at c fits = set_split out at c fits ∙ ap (λ k. take at out ++ (c ∷ drop k out)) (sym (add-one at))
+use borrow.Rule.Slice.PartMut.{put_mid}
+use Rattle.runner_text.specs.Text.{digits, field}
+use Rattle.runner_text.specs.Wrote.{put, Wrote, Adds}
+use Rattle.runner_text.specs.declared.page.Page.{Page}
 
 pub put-none : (out : List ℕ) (at : ℕ) → out ≡ put out at []
 unfolding put
@@ -58,9 +54,6 @@ module _ (out : List ℕ) (at : ℕ) (xs ys : List ℕ) (fits : at + length xs �
 pub wrote_none : (out : List ℕ) (at : ℕ) → Wrote 0 [] out at at out
 wrote_none out at = record { within = omega arith; after = sym (add-zero at); kept = refl; laid = put-none out at }
 
-pub wrote-letter : (out : List ℕ) (at c : ℕ) → at < length out → length (set out at c) ≡ length out → Wrote 1 (c ∷ []) out at (at + 1) (set out at c)
-wrote-letter out at c fits kept = record { within = omega arith; after = refl; kept = kept; laid = put-letter out at c fits }
-
 pub wrote_then : {m n : ℕ} {xs ys out out' out'' : List ℕ} {at mid next : ℕ} → at + m ≤ length out
     → Wrote m xs out at mid out' → Wrote n ys out' mid next out'' → Wrote (m + n) (xs ++ ys) out at next out''
 wrote_then {m} {n} {xs} {ys} {out} {out'} {out''} {at} {mid} {next} fits f g =
@@ -86,45 +79,62 @@ wrote_as {m} {n} {xs} {ys} {out} {out'} {at} {next} more same f =
     subst (λ l. Wrote n l out at next out') same
     (record { within = omega (arith, f.within); after = f.after; kept = f.kept; laid = f.laid })
 
--- hexadecimal digits
-pub hex-append : (xs ys : List ℕ) → hex (xs ++ ys) ≡ hex xs ++ hex ys
-hex-append [] ys = refl
-hex-append (x ∷ xs) ys = ap (λ l. hex_byte x ++ l) (hex-append xs ys) ∙ sym (append_assoc (hex_byte x) (hex xs) (hex ys))
-
-pub hex-more : (bytes : List ℕ) (i : ℕ) → i < length bytes → hex (take i bytes) ++ hex_byte (get_or bytes i 0) ≡ hex (take (i + 1) bytes)
-unfolding hex_byte
-hex-more bytes i below =
-    sym (ap (λ k. hex (take k bytes)) (add-one i) ∙ ap hex (take-suc bytes i 0 below) ∙ hex-append (take i bytes) (get_or bytes i 0 ∷ []))
-
 pub wrote-same : {m : ℕ} {xs ys out out' : List ℕ} {at next : ℕ} → xs ≡ ys → Wrote m xs out at next out' → Wrote m ys out at next out'
-wrote-same {m} {xs} {ys} {out} {out'} {at} {next} same f = subst (λ l. Wrote m l out at next out') same f
+wrote-same same f = wrote_as (omega arith) same f
+
+-- a text put into a part of the lent bytes
+pub wrote-part : (out text ys : List ℕ) (at next : ℕ) → next ≡ at + length text → next ≤ length out → ys ≡ text
+    → Wrote (length text) text out at next (put_mid at (next - at) out ys)
+unfolding put
+wrote-part out text ys at next e fits same =
+    record {
+      within = omega arith;
+      after = e;
+      kept = simp (length-append, length-take, length-drop, ap length same) (omega arith);
+      laid = ap₂ (λ l k. take at out ++ (l ++ k)) same (drop-drop (next - at) at out ∙ ap (λ k. drop k out) (omega arith));
+    }
+
+-- the same of a page
+pub adds_none : (p : Page) → Adds 0 [] p p
+adds_none p = record { same = refl; wrote = wrote_none p.out.now p.end }
+
+pub adds_then : {m n : ℕ} {xs ys : List ℕ} {p q r : Page} → p.end + m ≤ length p.out.now → Adds m xs p q → Adds n ys q r → Adds (m + n) (xs ++ ys) p r
+adds_then fits f g = record { same = g.same ∙ f.same; wrote = wrote_then fits f.wrote g.wrote }
+
+pub adds_as : {m n : ℕ} {xs ys : List ℕ} {p q : Page} → m ≤ n → xs ≡ ys → Adds m xs p q → Adds n ys p q
+adds_as more same f = record { same = f.same; wrote = wrote_as more same f.wrote }
+
+pub adds_same : {m : ℕ} {xs ys : List ℕ} {p q : Page} → xs ≡ ys → Adds m xs p q → Adds m ys p q
+adds_same same f = adds_as (omega arith) same f
 
 -- three texts, five texts
-pub wrote-three : {k m n : ℕ} {xs ys zs out out₁ out₂ out₃ : List ℕ} {at p q r : ℕ} → at + (k + m) ≤ length out
-    → Wrote k xs out at p out₁ → Wrote m ys out₁ p q out₂ → Wrote n zs out₂ q r out₃ → Wrote (k + (m + n)) (xs ++ (ys ++ zs)) out at r out₃
-wrote-three fits f g h = wrote_then (omega arith) f (wrote_then (omega (arith, f.within, f.kept)) g h)
+pub adds-three : {k m n : ℕ} {xs ys zs : List ℕ} {p q r s : Page} → p.end + (k + m) ≤ length p.out.now
+    → Adds k xs p q → Adds m ys q r → Adds n zs r s → Adds (k + (m + n)) (xs ++ (ys ++ zs)) p s
+adds-three fits f g h = adds_then (omega arith) f (adds_then (omega (arith, f.wrote.within, f.wrote.kept)) g h)
 
-pub wrote-five : {j k m n o : ℕ} {vs ws xs ys zs out out₁ out₂ out₃ out₄ out₅ : List ℕ} {at p q r s t : ℕ} → at + (j + (k + (m + n))) ≤ length out
-    → Wrote j vs out at p out₁ → Wrote k ws out₁ p q out₂ → Wrote m xs out₂ q r out₃ → Wrote n ys out₃ r s out₄ → Wrote o zs out₄ s t out₅
-    → Wrote (j + (k + (m + (n + o)))) (vs ++ (ws ++ (xs ++ (ys ++ zs)))) out at t out₅
-wrote-five fits e f g h i =
-    wrote_then (omega arith) e (wrote_then (omega (arith, e.within, e.kept)) f (wrote-three (omega (arith, e.within, e.kept, f.within, f.kept)) g h i))
+pub adds-five : {j k m n o : ℕ} {vs ws xs ys zs : List ℕ} {p q r s t u : Page} → p.end + (j + (k + (m + n))) ≤ length p.out.now
+    → Adds j vs p q → Adds k ws q r → Adds m xs r s → Adds n ys s t → Adds o zs t u
+    → Adds (j + (k + (m + (n + o)))) (vs ++ (ws ++ (xs ++ (ys ++ zs)))) p u
+adds-five fits e f g h i =
+    adds_then (omega arith) e
+    (adds_then (omega (arith, e.wrote.within, e.wrote.kept)) f (adds-three (omega (arith, e.wrote.within, e.wrote.kept, f.wrote.within, f.wrote.kept)) g h i))
+
+-- three numbers, each with a space after it
+pub adds_fields : {p q r s : Page} {a b c x y z : ℕ} → p.end + 63 ≤ length p.out.now → a ≡ x → b ≡ y → c ≡ z
+    → Adds 21 (field a) p q → Adds 21 (field b) q r → Adds 21 (field c) r s → Adds 63 (field x ++ (field y ++ field z)) p s
+adds_fields fits first second third f g h =
+    adds-three (omega arith) (adds_same (ap field first) f) (adds_same (ap field second) g) (adds_same (ap field third) h)
+
+-- what a page that began with no text leaves in the lent bytes
+pub adds_all : {n : ℕ} {xs out out' : List ℕ} {p q : Page} → p.out.now ≡ out → p.end ≡ 0 → Adds n xs p q → out' ≡ q.out.now → Wrote n xs out 0 q.end out'
+adds_all {n} {xs} {out} {out'} {p} {q} lent start f left =
+    subst (λ o. Wrote n xs out 0 q.end o) (sym left)
+    (subst (λ o. Wrote n xs o 0 q.end q.out.now) lent (subst (λ e. Wrote n xs p.out.now e q.end q.out.now) start f.wrote))
 
 -- digits, by the tests
-pub digits-none : (k n : ℕ) → k ≡ 0 → digits k n ≡ []
-digits-none k n e = ap (λ j. digits j n) e
-
 pub digits-one : (k n : ℕ) → (k ≡ 0 → ⊥) → n < 10 → digits k n ≡ (48 + n) ∷ []
 digits-one zero n some low = absurd (some refl)
 digits-one (suc k) n some low = rw (lt-ltb n 10 low)
 
 pub digits-next : (k n : ℕ) → 10 ≤ n → digits (suc k) n ≡ digits k (n / 10) ++ ((48 + n % 10) ∷ [])
 digits-next k n high = rw (le-ltb n 10 high)
-
-pub digits_more : (k n : ℕ) → (k ≡ 0 → ⊥) → 10 ≤ n → digits k n ≡ digits (k - 1) (n / 10) ++ ((48 + n % 10) ∷ [])
-digits_more zero n some high = absurd (some refl)
-digits_more (suc k) n some high = rw sub-one (digits-next k n high)
-
--- one more byte of a text
-pub text-more : (text : List ℕ) (i : ℕ) → i < length text → take i text ++ (get_or text i 0 ∷ []) ≡ take (i + 1) text
-text-more text i below = sym (ap (λ k. take k text) (add-one i) ∙ take-suc text i 0 below)

@@ -2,6 +2,7 @@
 pub mod Laws
 pub mod Handed
 pub mod Said
+pub mod Kit
 pub mod Long
 pub mod Turns
 pub mod Answered

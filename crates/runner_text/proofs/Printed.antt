@@ -1,20 +1,16 @@
 -- Turns that meet their contract, one after another, print the text of the whole input, and after a load that is accepted all of the output.
 -- Assumes nothing.
-use Rattle.std.specs.Prelude.{if◌then◌else◌}
+use Rattle.std.specs.Prelude.{Ok}
 use Prim.Native.Nat.{ℕ, suc, ◌*◌}
 use mathlib.Core.Path.{◌≡◌, sym, ap, ◌∙◌}
 use mathlib.Core.Bool.{true}
 use mathlib.Core.List.{List, ◌++◌}
 use lib.ListN.{take, drop, take-append-drop}
 use lib.Seq.{length-take-le}
-use Rattle.model.specs.Load.{accepted, load_of, accepts, is_accepted}
 use Rattle.model.specs.State.{loaded}
 use Rattle.states.specs.declared.State.{State}
-use Rattle.states.specs.Shown.{shown_state, is_sound, at_load, all_zero}
+use Rattle.states.specs.Shown.{shown_state, is_sound}
 use Rattle.states.proofs.Load.{load-shown}
-use Rattle.loader.specs.declared.Verdict.TheVariants.{Accepted}
-use Rattle.loader.specs.Shown.{verdict_of}
-use Rattle.kernel.specs.declared.Loaded.{Loaded}
 use Rattle.kernel.specs.Meets.{LoadMeets}
 use Rattle.kernel.specs.Given.{by_load}
 use Rattle.kernel.proofs.GivenStates.{given-sound}
@@ -32,25 +28,18 @@ printed-text {t} {st} {turns} (more {input = input} {text = text} long m p) =
     ∙ ap (text_from t (shown_state t st) (400 * turns)) (take-append-drop 32000 input)
 
 -- an accepted load, by any outcome that meets its contract
-module _ (t : List ℕ) (r : Loaded) (m : LoadMeets t r) (ok : r.verdict ≡ Accepted) where
-  load-accepted : load_of t ≡ accepted
-  load-accepted = sym m.verdict ∙ ap verdict_of ok
+module _ (t : List ℕ) (st : State) (m : LoadMeets t (Ok st)) where
+  pub load-sound : is_sound t st ≡ true
+  load-sound = given-sound t st (by_load m)
 
-  load-accepts : accepts t ≡ true
-  unfolding accepts
-  load-accepts = ap is_accepted load-accepted
-
-  pub load-sound : is_sound t r.state ≡ true
-  load-sound = given-sound t r.state (by_load m load-accepts)
-
-  load-shows : shown_state t r.state ≡ loaded t
-  load-shows = ap (shown_state t) (m.state ∙ ap (λ x. if x then at_load else all_zero) load-accepts) ∙ load-shown t
+  load-shows : shown_state t st ≡ loaded t
+  load-shows = ap (shown_state t) m.state ∙ load-shown t
 
 -- all that is printed after it
-pub printed-output : (file : List ℕ) {input text : List ℕ} {r : Loaded} → LoadMeets (tables_of file) r → r.verdict ≡ Accepted → Printed (tables_of file) r.state 0 input text → text ≡ output file input
+pub printed-output : (file : List ℕ) {input text : List ℕ} {st : State} → LoadMeets (tables_of file) (Ok st) → Printed (tables_of file) st 0 input text → text ≡ output file input
 unfolding output
-printed-output file {input} {text} {r} m ok p =
+printed-output file {input} {text} {st} m p =
     let t = tables_of file in
     printed-text p
-    ∙ ap (λ s. text_from t s 0 input) (load-shows t r m ok)
-    ∙ sym (ap (λ v. unless_refused v (text_from t (loaded t) 0 input)) (load-accepted t r m ok))
+    ∙ ap (λ s. text_from t s 0 input) (load-shows t st m)
+    ∙ sym (ap (λ v. unless_refused v (text_from t (loaded t) 0 input)) (sym m.verdict))

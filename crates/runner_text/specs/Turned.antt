@@ -3,23 +3,16 @@ use Rattle.std.specs.Prelude.{ℕ, suc, ◌*◌, ◌≤◌, ◌<◌, ◌≡◌, 
 use Rattle.model.specs.Run.{after_all, events_of}
 use Rattle.states.specs.declared.State.{State}
 use Rattle.states.specs.Shown.{shown_state, is_sound}
-use Rattle.runner_text.specs.Output.{lines_from, text_from, turn_records, turn_size}
+use Rattle.runner_text.specs.Output.{text_from, turn_records, turn_size}
 use Rattle.runner_text.specs.Wrote.{Wrote}
 use Rattle.runner_text.specs.declared.turn.Turned.{Turned}
 
--- a text, of at most so many bytes, is put at the start of the lent bytes; the state is that after the whole records read, and passes test 29
-pub record TurnedTo (most : ℕ) (text t : List ℕ) (st : State) (read out : List ℕ) (r : Turned) (out' : List ℕ) : Type 0 where
-  pub wrote : Wrote most text out 0 r.end out'
+-- a turn: the text of what was read, of at most 318 bytes a record and 18 for a broken tail, is put at the start of the lent bytes; the state is that
+-- after the whole records read, and passes test 29
+pub record TurnMeets (t : List ℕ) (st : State) (first : ℕ) (read out : List ℕ) (r : Turned) (out' : List ℕ) : Type 0 where
+  pub wrote : Wrote 127_218 (text_from t (shown_state t st) first read) out 0 r.end out'
   pub after : shown_state t r.state ≡ after_all t (shown_state t st) (events_of read)
   pub sound : is_sound t r.state ≡ true
-
--- whole records answered: their lines, of at most 318 bytes each
-abbrev pub LinesMeet : List ℕ → State → ℕ → List ℕ → List ℕ → Turned → List ℕ → Type 0
-LinesMeet t st first events = TurnedTo 127_200 (lines_from t (shown_state t st) first events) t st events
-
--- a turn: the text of what was read
-abbrev pub TurnMeets : List ℕ → State → ℕ → List ℕ → List ℕ → Turned → List ℕ → Type 0
-TurnMeets t st first read = TurnedTo 127_218 (text_from t (shown_state t st) first read) t st read
 
 -- what is printed of an input, from a state, after so many turns, by any outcomes that meet a turn's promise: where a read was full, another turn
 -- follows with the state that was handed back

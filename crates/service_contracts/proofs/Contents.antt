@@ -1,11 +1,11 @@
 -- What a port of the lent arrays holds: its marks where its row has them, its messages by the count of its row, and a store in range if the port is.
 -- Assumes nothing.
-use Prim.Native.Nat.{ℕ, zero, suc, ◌≤◌, ◌<◌}
+use Prim.Native.Nat.{ℕ, zero, suc, ◌*◌, ◌≤◌, ◌<◌}
 use mathlib.Core.Path.{◌≡◌, refl, sym, ◌∙◌, ap}
 use mathlib.Core.Bool.{true}
 use mathlib.Core.List.{List, [], ◌∷◌}
 use native.Mathlib.Omega.{arith}
-use lib.ListN.{length, get_or}
+use lib.ListN.{length, get_or, take, drop}
 use Rattle.model.specs.Words.{all_in}
 use Rattle.model.specs.Tables.{Row, room}
 use Rattle.model.specs.State.{Message}
@@ -15,10 +15,11 @@ use Rattle.tables.specs.Shown.{row_of}
 use Rattle.tables.specs.declared.PortRow.{PortRow}
 use Rattle.stores.specs.declared.Store.{Store}
 use Rattle.stores.specs.Ring.{Sized, queue_of, slot_of}
-use Rattle.stores.proofs.Laws.{queue-length, queue-at, message-length}
+use Rattle.stores.proofs.Lists.{length-filled}
+use Rattle.stores.proofs.Laws.{queue-length, queue-at}
 use Rattle.ports.specs.Held
 use Rattle.ports.specs.Held.{store_at, port_at}
-use Rattle.ports.proofs.Ports.{count-is, store-queue, store-lengths, store_bytes}
+use Rattle.ports.proofs.PortAt.{count-is, store-queue}
 use Rattle.service_contracts.specs.Served.{Fits}
 
 -- created, validity and arrival are the row's first three numbers
@@ -77,5 +78,5 @@ sized_of numbers bytes k row f =
     short i l =
         let inside : i < length (queue_of st) = omega (arith, queue-length st) in
         let held : all_in (fits (row_of row)) (queue_of st) ≡ true = rw (store-queue numbers bytes k) f.port.sized in
-        rw (← (message-length st (store_bytes numbers bytes k f.lent.blocks f.lent.there) (store-lengths numbers bytes k) (slot_of st i)), ← (queue-at st i l))
+        rw (← (length-filled (get_or st.lengths (slot_of st i) 0) (take 64 (drop (64 * slot_of st i) st.bytes))), ← (queue-at st i l))
         (between-high 1 row.largest (length (get_or (queue_of st) i [])) (fits-at (row_of row) (queue_of st) held i inside))

@@ -1,12 +1,11 @@
 -- Lent arrays that hold the ports of accepted tables: when they do, where the rows lie, each port with its row, and the state that the arrays show.
 -- Assumes nothing.
-use Prim.Native.Nat.{ℕ, ◌+◌, ◌<◌}
+use Prim.Native.Nat.{ℕ, ◌<◌}
 use mathlib.Core.Path.{◌≡◌, refl, sym, ◌∙◌, ap, subst}
 use mathlib.Core.Bool.{true}
 use mathlib.Core.List.{List}
 use native.Mathlib.Omega.{arith}
-use lib.ListN.{length}
-use Rattle.model.specs.Tables.{Tables, row_at, row}
+use Rattle.model.specs.Tables.{Tables, row}
 use Rattle.model.specs.Tables.{ports as port_count}
 use Rattle.model.specs.Load.{accepts}
 use Rattle.model.specs.State.{Clock, Port, port, with_port}
@@ -18,9 +17,8 @@ use Rattle.tables.specs.declared.PortRow.{PortRow}
 use Rattle.tables.proofs.Decoded as Decoded
 use Rattle.stores.specs.Ring.{Sized}
 use Rattle.ports.specs.Held.{store_at, port_at, PortPut}
-use Rattle.ports.proofs.Ports.{ports-at, ports-put}
-use Rattle.service_contracts.specs.declared.Layout.{Layout}
-use Rattle.service_contracts.specs.Did.{Laid, Held, shown}
+use Rattle.ports.proofs.PortAt.{ports-at, ports-put}
+use Rattle.service_contracts.specs.Did.{Held, shown}
 use Rattle.service_contracts.specs.Served.{Fits}
 use Rattle.service_contracts.specs.Called.{Rows}
 use Rattle.service_contracts.proofs.Contents.{sized_of}
@@ -35,40 +33,36 @@ pub shown-put : (t : Tables) (clock : Clock) (modes : List ℕ) {numbers bytes n
 shown-put t clock modes h p = ap (λ ps. record { clock = clock; modes = modes; ports = ps }) (ports-put (port_count t) h p)
 
 -- arrays that show a state in range hold its ports
-pub held_of : {t : Tables} {lay : Layout} {clock : Clock} {modes numbers bytes : List ℕ} → accepts t ≡ true → Laid t lay → length numbers ≡ 832 → length bytes ≡ 32768
-    → Ranged t (shown t clock modes numbers bytes) → Held t lay numbers bytes
-held_of {t} {numbers = numbers} {bytes = bytes} ok laid rows blocks r =
+pub held_of : {t : Tables} {clock : Clock} {modes numbers bytes : List ℕ} → accepts t ≡ true → Ranged t (shown t clock modes numbers bytes) → Held t numbers bytes
+held_of {t} {numbers = numbers} {bytes = bytes} ok r =
     record {
       accepted = ok;
-      laid = laid;
-      rows = rows;
-      blocks = blocks;
       each = λ k h. subst (PortRanged (row t k)) (ports-at numbers bytes (port_count t) k h) (r.each k h);
     }
 
 -- accepted tables: where the rows lie, and that there are few
-pub rows_of : {t : Tables} {lay : Layout} {numbers bytes : List ℕ} → Held t lay numbers bytes → Rows t lay
+pub rows_of : {t : Tables} {numbers bytes : List ℕ} → Held t numbers bytes → Rows t
 rows_of {t} h =
     let a = accepted t h.accepted in
-    record { laid = h.laid; inside = omega (arith, a.ports_after, a.channels_after); few = a.few_ports; ranges = a.rows }
+    record { few = a.few_ports; ranges = a.rows }
 
 -- the row of port k, decoded, shows the model's row; port k fits it, and so does its store
 pub row_read : (t : Tables) → Accepted t → (k : ℕ) → k < port_count t → {r : PortRow} → r ≡ decoded (row t k) → Shown.row_of r ≡ row t k
 row_read t a k h e = ap Shown.row_of e ∙ Decoded.shown (row t k) (a.rows k h)
 
--- the same of the row that the code reads by its layout
-pub row-at : {t : Tables} {lay : Layout} → Rows t lay → (k : ℕ) → k < port_count t → {r : PortRow} → r ≡ decoded (row_at t (lay.windows + k)) → Shown.row_of r ≡ row t k
-row-at {t} rows k h e = ap Shown.row_of (rw rows.laid.windowed at e) ∙ Decoded.shown (row t k) (rows.ranges k h)
+-- the same by the rows' ranges alone
+pub row-at : {t : Tables} → Rows t → (k : ℕ) → k < port_count t → {r : PortRow} → r ≡ decoded (row t k) → Shown.row_of r ≡ row t k
+row-at {t} rows k h e = ap Shown.row_of e ∙ Decoded.shown (row t k) (rows.ranges k h)
 
-pub fits-of : {t : Tables} {lay : Layout} {numbers bytes : List ℕ} → Held t lay numbers bytes → (k : ℕ) → k < port_count t → (r : PortRow) → r ≡ decoded (row t k) → Fits numbers bytes k r
-fits-of {t} {lay} {numbers} {bytes} h k l r e =
+pub fits-of : {t : Tables} {numbers bytes : List ℕ} → Held t numbers bytes → (k : ℕ) → k < port_count t → (r : PortRow) → r ≡ decoded (row t k) → Fits numbers bytes k r
+fits-of {t} {numbers} {bytes} h k l r e =
     let a = accepted t h.accepted in
     let shows : Shown.row_of r ≡ row t k = row_read t a k l e in
     record {
-      lent = record { rows = h.rows; blocks = h.blocks; there = omega (arith, a.few_ports) };
+      there = omega (arith, a.few_ports);
       ranges = subst RowRanges (sym shows) (a.rows k l);
       port = subst (λ x. PortRanged x (port_at numbers bytes k)) (sym shows) (h.each k l);
     }
 
-pub sized-at : {t : Tables} {lay : Layout} {numbers bytes : List ℕ} → Held t lay numbers bytes → (k : ℕ) → k < port_count t → Sized (store_at numbers bytes k)
-sized-at {t} {lay} {numbers} {bytes} h k l = sized_of numbers bytes k (decoded (row t k)) (fits-of h k l (decoded (row t k)) refl)
+pub sized-at : {t : Tables} {numbers bytes : List ℕ} → Held t numbers bytes → (k : ℕ) → k < port_count t → Sized (store_at numbers bytes k)
+sized-at {t} {numbers} {bytes} h k l = sized_of numbers bytes k (decoded (row t k)) (fits-of h k l (decoded (row t k)) refl)

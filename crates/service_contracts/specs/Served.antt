@@ -1,6 +1,6 @@
 -- A service at one port, against the model's: the answer that it gives, and the port that it leaves in the lent arrays.
 -- Assumes nothing.
-use Rattle.std.specs.Prelude.{ℕ, ◌<◌, ◌≡◌, List, ◌∷◌, length}
+use Rattle.std.specs.Prelude.{ℕ, ◌<◌, ◌≡◌, List, ◌∷◌}
 use Rattle.model.specs.State.{Message, with_queue}
 use Rattle.stores.specs.declared.Letter.{Letter}
 use Rattle.stores.specs.Ring.{letter_of}
@@ -13,15 +13,9 @@ use Rattle.events.specs.declared.answers.Answer.{Answer}
 use Rattle.events.specs.Shown.{refused_as, told_as}
 use Rattle.ports.specs.Held.{port_at, PortPut}
 
--- the lent arrays are whole, and port k is one of theirs
-pub record Lent (numbers bytes : List ℕ) (k : ℕ) : Type 0 where
-  pub rows : length numbers ≡ 832
-  pub blocks : length bytes ≡ 32768
-  pub there : k < 64
-
--- and the port is in the ranges of its row
+-- there is a port k, and it is in the ranges of its row
 pub record Fits (numbers bytes : List ℕ) (k : ℕ) (row : PortRow) : Type 0 where
-  pub lent : Lent numbers bytes k
+  pub there : k < 64
   pub ranges : RowRanges (row_of row)
   pub port : PortRanged (row_of row) (port_at numbers bytes k)
 

@@ -11,7 +11,7 @@ use lib.Seq.{length-take-le, take_at, drop-append-add, drop-drop}
 use Rattle.stores.specs.declared.Store.{Store}
 use Rattle.stores.specs.Ring.{pasted, lay_out, queue_of}
 use Rattle.ports.specs.Held.{row_of, store_at, port_at, ports_from, ports_of}
-use Rattle.ports.proofs.Ports.{ports-length}
+use Rattle.ports.proofs.PortAt.{ports-length}
 use Rattle.settled_form.specs.Settled.{port_numbers, port_bytes, settled_numbers, settled_bytes}
 use Rattle.settled_form.proofs.Laid.{laid_none, laid_next, numbers-length, bytes-length}
 

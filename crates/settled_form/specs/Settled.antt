@@ -5,7 +5,7 @@ use Rattle.model.specs.Words.{filled}
 use Rattle.model.specs.Run.{joined}
 use Rattle.model.specs.State.{Port}
 use Rattle.stores.specs.Ring.{slots, all_filled, pasted, Sized, Short}
-use Rattle.ports.specs.Held.{row_size, block_size, all_numbers, all_bytes, store_at, port_at, ports_of}
+use Rattle.ports.specs.Held.{row_size, block_size, store_at, port_at, ports_of}
 
 -- the thirteen numbers of a port, and its block of message bytes
 unfoldable pub port_numbers : Port → List ℕ
@@ -27,10 +27,8 @@ pub record Storable (q : Port) : Type 0 where
   pub few : length q.queue ≤ slots
   pub short : Short q.queue
 
--- lent arrays that are whole, and whose first n stores hold what a store can
+-- the first n ports, of at most 64, have stores that hold what a store can
 pub record Stored (numbers bytes : List ℕ) (n : ℕ) : Type 0 where
-  pub rows : length numbers ≡ all_numbers
-  pub blocks : length bytes ≡ all_bytes
   pub few : n ≤ 64
   pub each : (k : ℕ) → k < n → Sized (store_at numbers bytes k)
 

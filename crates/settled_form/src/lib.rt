@@ -1,51 +1,38 @@
 // A state put together: each port's numbers and messages laid into the arrays of a State, in settled form.
 #![tactic(auto)]
 
-ghost use Rattle.std.specs.Prelude.{◌≡◌, ◌+◌, length};
+ghost use Rattle.std.specs.Prelude.{◌+◌};
 ghost use Rattle.settled_form.specs.Settled.{Stored, PortLaid, PutTogether};
 
-use ports::number;
+use ports::{ARRIVAL, CREATED, LENGTHS, Ports, ROW_SIZE, VALIDITY, lay};
+use stores::BLOCK_SIZE;
 
-// Port k, in settled form, in the same row and block of the other arrays.
-fn put_port(numbers: &[u32], bytes: &[u8], k: usize, out_numbers: &mut [u32], out_bytes: &mut [u8])
-    requires out_numbers_len { (length out_numbers.old ≡ 832) × (length out_bytes.old ≡ 32768) }
-    requires stored { Stored numbers.now bytes.now (k + 1) }
-    ensures { PortLaid numbers.now bytes.now k out_numbers.old out_bytes.old out_numbers.new out_bytes.new }
+// Port k, in settled form, in the same row and block of the other ports.
+fn put_port(ports: &Ports, k: usize, out: &mut Ports)
+    requires { Stored ports.now.numbers ports.now.bytes (k + 1) }
+    ensures { PortLaid ports.now.numbers ports.now.bytes k out.old.numbers out.old.bytes out.new.numbers out.new.bytes }
 {
-    let held = ports::take_store(numbers, bytes, k);
-    let st = stores::settled(held);
+    let held = ports.take_store(k);
+    let st = held.settled();
     let first = [
-        number(numbers, k, ports::CREATED),
-        number(numbers, k, ports::VALIDITY),
-        number(numbers, k, ports::ARRIVAL),
+        ports.number(k, CREATED),
+        ports.number(k, VALIDITY),
+        ports.number(k, ARRIVAL),
         st.oldest,
         st.count,
     ];
-    ports::lay_numbers(out_numbers, ports::ROW_SIZE * k, &first);
-    ports::lay_numbers(
-        out_numbers,
-        ports::ROW_SIZE * k + ports::LENGTHS,
-        &st.lengths,
-    );
-    ports::lay_bytes(out_bytes, stores::BLOCK_SIZE * k, &st.bytes);
+    lay(&mut out.numbers, ROW_SIZE * k, &first);
+    lay(&mut out.numbers, ROW_SIZE * k + LENGTHS, &st.lengths);
+    lay(&mut out.bytes, BLOCK_SIZE * k, &st.bytes);
 }
 
 // The first n ports in settled form: the oldest message in slot 0, zeros wherever no message stands. The other rows stay, since those
 // beyond the tables' ports come back as they came.
-pub fn put_together(
-    numbers: &[u32],
-    bytes: &[u8],
-    n: usize,
-    out_numbers: &mut [u32],
-    out_bytes: &mut [u8],
-)
-    requires out_numbers_len { (length out_numbers.old ≡ 832) × (length out_bytes.old ≡ 32768) }
-    requires stored { Stored numbers.now bytes.now n }
-    ensures { PutTogether numbers.now bytes.now n out_numbers.old out_bytes.old out_numbers.new out_bytes.new }
+pub fn put_together(ports: &Ports, n: usize, out: &mut Ports)
+    requires { Stored ports.now.numbers ports.now.bytes n }
+    ensures { PutTogether ports.now.numbers ports.now.bytes n out.old.numbers out.old.bytes out.new.numbers out.new.bytes }
 {
-    let mut k: usize = 0;
-    while k < n {
-        put_port(numbers, bytes, k, out_numbers, out_bytes);
-        k = k + 1;
+    for k in 0..n {
+        put_port(ports, k, out);
     }
 }

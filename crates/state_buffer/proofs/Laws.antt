@@ -3,11 +3,11 @@
 use Prim.Native.Nat.{ℕ, zero, suc, ◌+◌, ◌*◌, ◌≤◌, ◌<◌}
 use mathlib.Core.Path.{◌≡◌, refl, sym, ◌∙◌, ap}
 use mathlib.Core.List.{List, [], ◌∷◌, ◌++◌, append_assoc, append-nil}
-use native.Mathlib.Nat.{zero-add, add-zero}
+use native.Mathlib.Nat.{zero-add}
 use native.Mathlib.Numerals.{add-one}
 use native.Mathlib.Omega.{arith}
-use lib.ListN.{length, get_or, take, drop, set, length-append, length-drop, take-append-drop}
-use lib.Seq.{take-suc, sets-eq, drop-length, length-take-le, get_or-take, get_or-drop}
+use lib.ListN.{length, get_or, take, drop, length-append, length-drop}
+use lib.Seq.{take-suc, drop-length, length-take-le}
 use Rattle.model.specs.Words.{word32, bytes32}
 use Rattle.stores.specs.Ring.{pasted}
 use Rattle.settled_form.proofs.Parts.{pasted-behind}
@@ -35,21 +35,9 @@ all-behind (y ∷ l) x = ap (λ r. bytes32 y ++ r) (all-behind l x)
 pub all-next : (l : List ℕ) (i : ℕ) → i < length l → bytes_of_all (take (i + 1) l) ≡ bytes_of_all (take i l) ++ bytes32 (get_or l i 0)
 all-next l i h = rw (add-one i, take-suc l i 0 h) (all-behind (take i l) (get_or l i 0))
 
--- four bytes stored one after the other
-pub four-laid : (l : List ℕ) (at a b c d : ℕ) → at + 4 ≤ length l → set (set (set (set l at a) (at + 1) b) (at + 2) c) (at + 3) d ≡ pasted l at (a ∷ b ∷ c ∷ d ∷ [])
-four-laid l at a b c d h =
-    let one : at + 1 ≡ suc at = omega arith in
-    let two : at + 2 ≡ suc (suc at) = omega arith in
-    let three : at + 3 ≡ suc (suc (suc at)) = omega arith in
-    rw (one, two, three) (sets-eq (a ∷ b ∷ c ∷ d ∷ []) l at h ∙ append_assoc (take at l) (a ∷ b ∷ c ∷ d ∷ []) (drop (at + 4) l))
-
 -- what covers the whole list
 pub pasted-whole : (l part : List ℕ) → length part ≡ length l → pasted l 0 part ≡ part
 pasted-whole l part h = rw (zero-add, h, drop-length l) (append-nil part)
-
--- nothing laid
-pub pasted-none : (l : List ℕ) (at : ℕ) → pasted l at [] ≡ l
-pasted-none l at = rw add-zero (take-append-drop at l)
 
 -- a part laid behind what stands at the start
 behind : (l front part : List ℕ) (n : ℕ) → length front ≡ n → pasted (pasted l 0 front) n part ≡ pasted l 0 (front ++ part)
@@ -80,16 +68,9 @@ state-laid o st whole modes numbers bytes =
 pub part-long : (b : List ℕ) (at n : ℕ) → at + n ≤ length b → length (take n (drop at b)) ≡ n
 part-long b at n h = length-take-le n (drop at b) (omega (arith, length-drop at b))
 
-pub part_at : (b : List ℕ) (at n i : ℕ) → i < n → get_or (take n (drop at b)) i 0 ≡ get_or b (at + i) 0
-part_at b at n i h = get_or-take n (drop at b) i 0 h ∙ get_or-drop at b i 0
-
 -- the five parts of a buffer, read, are its state
 pub state-read :
     (b : List ℕ) {window time : ℕ} {modes numbers bytes : List ℕ} → window ≡ word32 b 0 → time ≡ word32 b 4 → modes ≡ take 16 (drop 8 b) → numbers ≡ numbers_from b 832 24 → bytes ≡ take 32768 (drop 3352 b)
     → record { window = window; time = time; modes = modes; numbers = numbers; bytes = bytes } ≡ state_of b
 unfolding state_of
 state-read b w t m n c = λ i. record { window = w i; time = t i; modes = m i; numbers = n i; bytes = c i }
-
--- what reaches to the end of a buffer is within it
-pub whole-within : (b : List ℕ) → length b ≡ state_size → state_size ≤ length b
-whole-within b h = omega (arith, h)

@@ -1,12 +1,12 @@
 // A state into a host's byte buffer and out of it: each of its numbers low byte first, in the order of the struct.
 #![tactic(auto)]
 
-ghost use Rattle.std.specs.Prelude.{◌≡◌, ◌+◌, ◌*◌, ◌≤◌, length, take, drop};
+ghost use Rattle.std.specs.Prelude.{◌≡◌, ◌+◌, ◌*◌, ◌≤◌, length};
 ghost use Rattle.model.specs.Words.{bytes32};
 ghost use Rattle.stores.specs.Ring.{pasted};
 ghost use Rattle.state_buffer.specs.Layout.{state_size, numbers_from, bytes_of_all, state_of, bytes_of};
 
-use ports::{ALL_BYTES, ALL_NUMBERS, lay_bytes};
+use ports::{ALL_BYTES, ALL_NUMBERS, lay};
 use states::{PARTITIONS, State};
 use tables::word32;
 
@@ -28,25 +28,12 @@ fn read_numbers(b: &[u8], at: usize, out: &mut [u32])
     requires { at + 4 * length out.old ≤ length b.now }
     ensures { out.new ≡ numbers_from b.now (length out.old) at }
 {
-    let mut i: usize = 0;
-    while i < out.len() {
-        out[i] = word32(b, at + 4 * i);
-        i = i + 1;
+    for (i, n) in out.iter_mut().enumerate() {
+        *n = word32(b, at + 4 * i);
     }
 }
 
-// The same of bytes.
-fn read_bytes(b: &[u8], at: usize, out: &mut [u8])
-    requires { at + length out.old ≤ length b.now }
-    ensures { out.new ≡ take (length out.old) (drop at b.now) }
-{
-    let mut i: usize = 0;
-    while i < out.len() {
-        out[i] = b[at + i];
-        i = i + 1;
-    }
-}
-
+// Each part read by itself: a state of zeros that is then filled is moved whole, which takes a host 100 KB of stack more.
 pub fn state_of(b: &[u8]) -> State
     requires { length b.now ≡ state_size }
     ensures { result ≡ state_of b.now }
@@ -54,9 +41,9 @@ pub fn state_of(b: &[u8]) -> State
     let mut modes = [0; PARTITIONS];
     let mut numbers = [0; ALL_NUMBERS];
     let mut bytes = [0; ALL_BYTES];
-    read_bytes(b, MODES_AT, &mut modes);
+    modes.copy_from_slice(&b[MODES_AT..NUMBERS_AT]);
     read_numbers(b, NUMBERS_AT, &mut numbers);
-    read_bytes(b, BYTES_AT, &mut bytes);
+    bytes.copy_from_slice(&b[BYTES_AT..]);
     State {
         window: word32(b, WINDOW_AT),
         time: word32(b, TIME_AT),
@@ -71,20 +58,15 @@ fn lay_number(out: &mut [u8], at: usize, n: u32)
     requires { at + 4 ≤ length out.old }
     ensures { out.new ≡ pasted out.old at (bytes32 n) }
 {
-    out[at] = (n % 256) as u8;
-    out[at + 1] = (n / 256 % 256) as u8;
-    out[at + 2] = (n / 65536 % 256) as u8;
-    out[at + 3] = (n / 16777216 % 256) as u8;
+    lay(out, at, &n.to_le_bytes());
 }
 
 fn lay_numbers(out: &mut [u8], at: usize, numbers: &[u32])
     requires { at + 4 * length numbers.now ≤ length out.old }
     ensures { out.new ≡ pasted out.old at (bytes_of_all numbers.now) }
 {
-    let mut i: usize = 0;
-    while i < numbers.len() {
-        lay_number(out, at + 4 * i, numbers[i]);
-        i = i + 1;
+    for (i, n) in numbers.iter().enumerate() {
+        lay_number(out, at + 4 * i, *n);
     }
 }
 
@@ -92,12 +74,9 @@ pub fn lay_state(state: State, out: &mut [u8])
     requires { length out.old ≡ state_size }
     ensures { out.new ≡ bytes_of state }
 {
-    let modes = state.modes;
-    let numbers = state.numbers;
-    let bytes = state.bytes;
     lay_number(out, WINDOW_AT, state.window);
     lay_number(out, TIME_AT, state.time);
-    lay_bytes(out, MODES_AT, &modes);
-    lay_numbers(out, NUMBERS_AT, &numbers);
-    lay_bytes(out, BYTES_AT, &bytes);
+    lay(out, MODES_AT, &state.modes);
+    lay_numbers(out, NUMBERS_AT, &state.numbers);
+    lay(out, BYTES_AT, &state.bytes);
 }

@@ -1,39 +1,41 @@
 -- Test 29 as the code makes it is the model's: the numbers of a port tell what the model asks of the port, whatever its message bytes.
 -- Assumes nothing.
-use Prim.Native.Nat.{ℕ, zero, suc, ◌+◌, ◌≤◌, ◌<◌}
-use mathlib.Core.Path.{◌≡◌, refl, sym, ◌∙◌, ap, ap₂}
+use Prim.Native.Nat.{ℕ, zero, suc, ◌+◌, ◌-◌, ◌*◌, ◌≤◌, ◌<◌}
+use mathlib.Core.Path.{◌≡◌, refl, sym, ◌∙◌, ap, ap₂, subst}
 use mathlib.Core.Bool.{Bool, true, false, ◌&&◌, ◌||◌}
 use mathlib.Core.List.{List, [], ◌∷◌}
 use native.Mathlib.Omega.{arith}
 use lib.Dec.{leb, ltb, eqb}
-use lib.ListN.{length, get_or, drop}
-use lib.Seq.{get_or-drop}
-use borrow.Author.Tests.{le-leb, lt-leb, lt-ltb, le-ltb, eq-eqb, ne_eqb, eqb-true}
+use Rattle.std.specs.List.{list_all}
+use Rattle.std.proofs.lemmas.Bool.Decides.{nat_tests}
+use lib.ListN.{length, get_or, take, drop, length-take, length-drop}
+use lib.Seq.{get_or-take, get_or-drop, ext_get_or}
+use borrow.Author.Tests.{eq-eqb}
 use Rattle.model.specs.Words.{between, all, all_in}
 use Rattle.model.specs.Tables.{Tables, windows, Row, row, room}
 use Rattle.model.specs.Tables.{ports as port_count}
 use Rattle.model.specs.State.{Clock, shortest, port_in_range, ports_in_range, in_range}
 use Rattle.model.specs.State.{fits}
+use Rattle.model.specs.Load.{accepts}
+use Rattle.model.specs.Ranged.{RowRanges}
+use Rattle.model.proofs.Accepted.{accepted}
 use Rattle.tables.specs.Shown as Shown
 use Rattle.tables.specs.declared.PortRow.{PortRow}
-use Rattle.tables.specs.declared.Transfer.TheVariants.{Sampling, Queuing}
 use Rattle.stores.specs.Ring.{slots, slot_of, messages_from, queue_of}
 use Rattle.stores.proofs.Laws.{message-length}
 use Rattle.ports.specs.Held.{row_of, block_of, store_in, store_at, port_at, ports_from, ports_of}
-use Rattle.ports.proofs.Ports.{count-is, store_bytes, store-lengths, ports-length}
+use Rattle.ports.proofs.Rows.{row-at, row-length}
+use Rattle.ports.proofs.PortAt.{count-is, store_bytes, store-lengths, ports-length}
+use Rattle.service_contracts.proofs.Holding.{row_read}
 use Rattle.service_contracts.specs.Did.{shown}
 use Rattle.state_test.specs.Tested.{modes_fit, length_fits, lengths_fit, numbers_fit, port_fits, indexed, each_fits}
 
 -- ---- bounded searches
 
-all-shift : (p : ℕ → Bool) (n k : ℕ) → all p n (suc k) ≡ all (λ i. p (suc i)) n k
-all-shift p zero k = refl
-all-shift p (suc n) k = ap (λ rest. p (suc k) && rest) (all-shift p n (suc k))
-
--- a test of each element of a list, by their places
-pub all_placed : {A : Type 0} (p : A → Bool) (d : A) (l : List A) → all_in p l ≡ all (λ k. p (get_or l k d)) (length l) 0
-all_placed p d [] = refl
-all_placed p d (x ∷ l) = ap (λ rest. p x && rest) (all_placed p d l ∙ sym (all-shift (λ k. p (get_or (x ∷ l) k d)) (length l) 0))
+-- std's test of each element is the model's
+pub list-all : {A : Type 0} (p : A → Bool) (l : List A) → list_all p l ≡ all_in p l
+list-all p [] = refl
+list-all p (x ∷ l) = ap (λ rest. p x && rest) (list-all p l)
 
 swapped : (a b c d : Bool) → (a && b && (c && d)) ≡ (a && c && (b && d))
 swapped true true c d = refl
@@ -97,43 +99,10 @@ numbers-judged numbers bytes k wide few r =
     (leb (get_or (row_of numbers k) 4 0) (room r)) (eqb (get_or (row_of numbers k) 0 0) 1 || eqb (get_or (row_of numbers k) 4 0) 0)
     (lengths_fit r.largest (row_of numbers k) (get_or (row_of numbers k) 3 0) (get_or (row_of numbers k) 4 0)))
 
--- a port's tests in the order in which the code makes them
-module _ (r : Row) (n : List ℕ) where
-  pub mark-out : 1 < get_or n 0 0 → numbers_fit r n ≡ false
-  unfolding numbers_fit
-  mark-out h = rw (lt-leb (get_or n 0 0) 1 h)
-
-  pub validity-out : get_or n 0 0 ≤ 1 → 1 < get_or n 1 0 → numbers_fit r n ≡ false
-  unfolding numbers_fit
-  validity-out mark h = rw (le-leb (get_or n 0 0) 1 mark, lt-leb (get_or n 1 0) 1 h)
-
-  module _ (mark : get_or n 0 0 ≤ 1) (validity : get_or n 1 0 ≤ 1) where
-    pub index-out : 8 ≤ get_or n 3 0 → numbers_fit r n ≡ false
-    unfolding numbers_fit
-    index-out h = rw (le-leb (get_or n 0 0) 1 mark, le-leb (get_or n 1 0) 1 validity, le-ltb (get_or n 3 0) 8 h)
-
-    module _ (index : get_or n 3 0 < 8) where
-      pub count-out : room r < get_or n 4 0 → numbers_fit r n ≡ false
-      unfolding numbers_fit
-      count-out h = rw (le-leb (get_or n 0 0) 1 mark, le-leb (get_or n 1 0) 1 validity, lt-ltb (get_or n 3 0) 8 index, lt-leb (get_or n 4 0) (room r) h)
-
-      module _ (count : get_or n 4 0 ≤ room r) where
-        pub uncreated : (get_or n 0 0 ≡ 1 → ⊥) → numbers_fit r n ≡ eqb (get_or n 4 0) 0
-        unfolding numbers_fit
-        uncreated h =
-            rw (le-leb (get_or n 0 0) 1 mark, le-leb (get_or n 1 0) 1 validity, lt-ltb (get_or n 3 0) 8 index, le-leb (get_or n 4 0) (room r) count, ne_eqb (get_or n 0 0) 1 h)
-            (go (eqb (get_or n 4 0) 0) refl)
-          where
-            go : (b : Bool) → eqb (get_or n 4 0) 0 ≡ b → (eqb (get_or n 4 0) 0 && lengths_fit r.largest n (get_or n 3 0) (get_or n 4 0)) ≡ eqb (get_or n 4 0) 0
-            go false e = rw e
-            go true e = rw (e, eqb-true (get_or n 4 0) 0 e)
-
-        pub created : get_or n 0 0 ≡ 1 → {oldest stored : ℕ} {answer : Bool} → oldest ≡ get_or n 3 0 → stored ≡ get_or n 4 0
-            → answer ≡ lengths_fit r.largest n oldest stored → answer ≡ numbers_fit r n
-        unfolding numbers_fit
-        created h o s e =
-            rw (le-leb (get_or n 0 0) 1 mark, le-leb (get_or n 1 0) 1 validity, lt-ltb (get_or n 3 0) 8 index, le-leb (get_or n 4 0) (room r) count, eq-eqb (get_or n 0 0) 1 h)
-            (e ∙ ap₂ (lengths_fit r.largest n) o s)
+-- an oldest slot past the ring is refused, whatever else the numbers say
+pub index-out : (r : Row) (n : List ℕ) → 8 ≤ get_or n 3 0 → numbers_fit r n ≡ false
+unfolding numbers_fit
+index-out r n h = grind (arith, nat_tests)
 
 -- ---- all ports
 
@@ -150,6 +119,31 @@ ports-judged t numbers bytes wide few =
     ∙ sym (all_same (port_fits t numbers) (λ i. port_in_range (row t i) (port_at numbers bytes i) && ltb (get_or (row_of numbers i) 3 0) slots) (port_count t) 0 (port_count t) (omega arith)
     (λ i h. numbers-judged numbers bytes i wide (omega arith) (row t i)))
 
+-- port k of accepted tables, as the code reads it: its row decoded, and its thirteen numbers as a part of all
+module _ (t : Tables) (numbers : List ℕ) (ok : accepts t ≡ true) (whole : length numbers ≡ 832) (k : ℕ) (there : k < port_count t) where
+  few : k < 64
+  few = omega (arith, (accepted t ok).few_ports)
+
+  pub part-inside : 13 * k + 13 ≤ length numbers
+  part-inside = omega (arith, few)
+
+  part-length : length (take (13 * k + 13 - 13 * k) (drop (13 * k) numbers)) ≡ 13
+  part-length = simp (length-take, length-drop) (omega (arith, few))
+
+  part-is : take (13 * k + 13 - 13 * k) (drop (13 * k) numbers) ≡ row_of numbers k
+  part-is =
+      ext_get_or 0 _ _ (part-length ∙ sym (row-length numbers k))
+      (λ i inside.
+      let here : i < 13 = omega (arith, part-length) in
+      get_or-take (13 * k + 13 - 13 * k) (drop (13 * k) numbers) i 0 (omega arith) ∙ get_or-drop (13 * k) numbers i 0 ∙ sym (row-at numbers k i here))
+
+  module _ {r : PortRow} (read : r ≡ Shown.decoded (row t k)) where
+    pub its-ranges : RowRanges (Shown.row_of r)
+    its-ranges = subst RowRanges (sym (row_read t (accepted t ok) k there read)) ((accepted t ok).rows k there)
+
+    pub port-judged : {b : Bool} → b ≡ numbers_fit (Shown.row_of r) (take (13 * k + 13 - 13 * k) (drop (13 * k) numbers)) → b ≡ port_fits t numbers k
+    port-judged e = e ∙ ap₂ numbers_fit (row_read t (accepted t ok) k there read) part-is
+
 -- ---- the state
 
 joined : (w m p i e : Bool) → (p && i) ≡ e → (w && true && m && true && p && i) ≡ (w && m && e)
@@ -164,12 +158,3 @@ state-judged t clock modes numbers bytes sixteen wide few =
     rw (eq-eqb (length modes) 16 sixteen, eq-eqb (length (ports_of numbers bytes (port_count t))) (port_count t) (ports-length numbers bytes (port_count t)))
     (joined (ltb clock.window (windows t)) (modes_fit modes) (ports_in_range t 0 (ports_of numbers bytes (port_count t))) (indexed t numbers) (each_fits t numbers)
     (ports-judged t numbers bytes wide few))
-
--- ---- decoded rows
-
--- the room of a row, by its case
-pub room-sampling : (row : PortRow) (p : ℕ) → row.transfer ≡ Sampling p → room (Shown.row_of row) ≡ 1
-room-sampling row p e = rw e
-
-pub room-queuing : (row : PortRow) (d : ℕ) → row.transfer ≡ Queuing d → room (Shown.row_of row) ≡ d
-room-queuing row d e = rw e

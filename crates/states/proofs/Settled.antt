@@ -16,7 +16,7 @@ use Rattle.model.proofs.Tests.{both}
 use Rattle.stores.specs.Ring.{lay_out}
 use Rattle.stores.proofs.Laws.{queue-lay_out}
 use Rattle.ports.specs.Held.{row_of, port_in, port_at, ports_of}
-use Rattle.ports.proofs.Ports.{ports-length, ports-at}
+use Rattle.ports.proofs.PortAt.{ports-length, ports-at}
 use Rattle.state_test.specs.Tested.{indexed}
 use Rattle.settled_form.specs.Settled.{port_numbers, port_bytes, settled_numbers, settled_bytes, Storable}
 use Rattle.settled_form.proofs.Laid.{row_back, block_back}

@@ -10,7 +10,8 @@ use ports::{ALL_BYTES, ALL_NUMBERS};
 // How many partitions there are.
 pub const PARTITIONS: usize = 16;
 
-// 01, "State and clock". Test 29 looks at every number of which a range is said here; of port rows only at those of the tables' ports.
+// 01, "State and clock". The fields stay flat numbers and bytes: what may not change is the layout that C hosts are given (`bytes_of`,
+// include/mueanphrai.h), which has them in this order. Test 29 looks at every number of which a range is said here; of port rows only at those of the tables' ports.
 #[derive(Clone, Copy)]
 pub struct State {
     // the current window, 0 up to the tables' number of windows
@@ -32,19 +33,18 @@ pub struct State {
 }
 
 // At load: window 0, time 0, each partition COLD_START, no port created, all stores empty.
+#[tactic(auto, unfolding(crate::specs::Shown::at_load, crate::specs::Shown::all_zero))]
 pub fn loaded() -> State
     ensures { result ≡ at_load }
 {
     State {
-        window: 0,
-        time: 0,
         modes: [COLD_START; PARTITIONS],
-        numbers: [0; ALL_NUMBERS],
-        bytes: [0; ALL_BYTES],
+        ..zero()
     }
 }
 
-// The state that stands beside a refused load: all zeros.
+// The state of zeros, of which the state at load is made. A refused load gives no state.
+#[tactic(auto, unfolding(crate::specs::Shown::all_zero))]
 pub fn zero() -> State
     ensures { result ≡ all_zero }
 {

@@ -1,7 +1,8 @@
 -- The laws of a store: what it holds after append and drop, its oldest message, and its settled form.
 -- Assumes nothing.
-use Prim.Native.Nat.{ℕ, zero, suc, ◌+◌, ◌-◌, ◌*◌, ◌%◌, ◌≤◌, ◌<◌}
-use mathlib.Core.Path.{◌≡◌, refl, sym, ap, ap₂, ◌∙◌}
+use Prim.Native.Nat.{ℕ, zero, suc, ◌+◌, ◌-◌, ◌*◌, ◌%◌, ◌≤◌, ◌<◌, min}
+use mathlib.Core.Path.{◌≡◌, refl, sym, ap, ap₂, subst, ◌∙◌}
+use Rattle.std.specs.Coded.{le_prop}
 use mathlib.Core.List.{List, [], ◌∷◌, ◌++◌, map, append-nil, append_assoc}
 use native.Mathlib.Nat.{zero-add}
 use native.Mathlib.Numerals.{add-one}
@@ -44,8 +45,16 @@ queue-dropped st some =
 
 -- ---- letters
 
+-- a letter is known by its bytes and its size
+pub letter_is : (l : Letter) (m : Message) → l.bytes ≡ filled 64 m → l.size ≡ min (length m) 64 → l ≡ letter_of m
+letter_is l m bytes size =
+    let P : ℕ → Type 0 = λ n. (short : n ≤ 64) → l ≡ record { bytes = filled 64 m; size = n; short = short } in
+    subst P size (λ short. ap₂ (λ b s. record { bytes = b; size = l.size; short = s }) bytes (le_prop l.short short)) (letter_of m).short
+
 pub written-letter : (m : Message) → length m ≤ 64 → written (letter_of m) ≡ m
-written-letter m fits = take-filled 64 m fits
+written-letter m fits =
+    let whole : min (length m) 64 ≡ length m = omega arith in
+    rw whole (take-filled 64 m fits)
 
 -- the oldest message is the queue's head
 pub oldest-head : (st : Store) → 0 < st.count → (m : Message) (q : List Message) → queue_of st ≡ m ∷ q → oldest_of st ≡ letter_of m
@@ -62,14 +71,14 @@ module _ (st : Store) (wide : length st.bytes ≡ 512) (eight : length st.length
 
   -- one letter more: the queue grows by its message
   module _ (l : Letter) (whole : length l.bytes ≡ 64) (room : st.count < 8) where
-    pub queue-appended : l.size ≤ 64 → queue_of (appended st l) ≡ queue_of st ++ written l ∷ []
+    pub queue-appended : queue_of (appended st l) ≡ queue_of st ++ written l ∷ []
     unfolding queue_of appended
-    queue-appended fits =
+    queue-appended =
         let kept : (k : ℕ) → k < st.count → placed (appended st l) (0 + k) ≡ placed st (0 + k) =
         λ k h. message-kept st wide eight l whole room (0 + k) (omega arith)
         in
         let stored : placed (appended st l) (0 + st.count) ≡ written l =
-        ap (placed (appended st l)) (zero-add st.count) ∙ message-stored st wide eight l whole room fits
+        ap (placed (appended st l)) (zero-add st.count) ∙ message-stored st wide eight l whole room
         in
         ap (λ n. messages_from (appended st l) n 0) (add-one st.count)
         ∙ messages-last (appended st l) st.count 0
@@ -106,20 +115,20 @@ unfolding lay_out
 lay_out-lengths q = length-filled 8 (map length q)
 
 -- one message more is one letter more
-pub lay_out-append : (q : List Message) (m : Message) → length q < 8 → lay_out (q ++ m ∷ []) ≡ appended (lay_out q) (letter_of m)
+pub lay_out-append : (q : List Message) (m : Message) → length q < 8 → length m ≤ 64 → lay_out (q ++ m ∷ []) ≡ appended (lay_out q) (letter_of m)
 unfolding lay_out appended
-lay_out-append q m room =
+lay_out-append q m room fits =
     let place : length q ≡ (0 + length q) % 8 = omega arith in
     let bytes : filled 512 (all_filled (q ++ m ∷ [])) ≡ pasted (filled 512 (all_filled q)) (64 * ((0 + length q) % 8)) (filled 64 m) =
     ap (filled 512) (filled-joined q (m ∷ []) ∙ ap (λ part. all_filled q ++ part) (append-nil (filled 64 m)))
     ∙ filled-append 512 (all_filled q) (filled 64 m) (omega (arith, filled-size q, length-filled 64 m))
     ∙ ap (λ at. pasted (filled 512 (all_filled q)) at (filled 64 m)) (filled-size q ∙ ap (λ k. 64 * k) place)
     in
-    let sizes : filled 8 (map length (q ++ m ∷ [])) ≡ set (filled 8 (map length q)) ((0 + length q) % 8) (length m) =
+    let sizes : filled 8 (map length (q ++ m ∷ [])) ≡ set (filled 8 (map length q)) ((0 + length q) % 8) (min (length m) 64) =
     ap (filled 8) (sizes-joined q (m ∷ []))
     ∙ filled-append 8 (map length q) (length m ∷ []) (omega (arith, length-map q length))
     ∙ pasted-one (filled 8 (map length q)) (length (map length q)) (length m) (omega (arith, length-map q length, length-filled 8 (map length q)))
-    ∙ ap (λ at. set (filled 8 (map length q)) at (length m)) (length-map q length ∙ place)
+    ∙ ap₂ (set (filled 8 (map length q))) (length-map q length ∙ place) (omega arith)
     in
     let counted : length (q ++ m ∷ []) ≡ length q + 1 = length-append q (m ∷ []) in
     λ i. record { bytes = bytes i; lengths = sizes i; oldest = 0; count = counted i }
@@ -131,8 +140,8 @@ laid_none = refl
 
 laid_more : (q : List Message) (m : Message) → length q < 8 → length m ≤ 64 → queue_of (lay_out q) ≡ q → queue_of (lay_out (q ++ m ∷ [])) ≡ q ++ m ∷ []
 laid_more q m room fits held =
-    ap queue_of (lay_out-append q m room)
-    ∙ queue-appended (lay_out q) (lay_out-bytes q) (lay_out-lengths q) (letter_of m) (length-filled 64 m) (omega (arith, lay_out-count q)) fits
+    ap queue_of (lay_out-append q m room fits)
+    ∙ queue-appended (lay_out q) (lay_out-bytes q) (lay_out-lengths q) (letter_of m) (length-filled 64 m) (omega (arith, lay_out-count q))
     ∙ ap₂ (λ q m. q ++ m ∷ []) held (written-letter m fits)
 
 laid-prefix : (q : List Message) → length q ≤ 8 → Short q → (k : ℕ) → k ≤ length q → queue_of (lay_out (take k q)) ≡ take k q
@@ -145,10 +154,10 @@ pub queue-lay_out : (q : List Message) → length q ≤ 8 → Short q → queue_
 queue-lay_out q few short = rw (take-length q) at (laid-prefix q few short (length q) (omega arith))
 
 -- the first messages of a store laid out, and one message more
-pub lay_out-next : (st : Store) (i : ℕ) → i < st.count → i < 8
+pub lay_out-next : (st : Store) (i : ℕ) → i < st.count → i < 8 → length (message_in st (slot_of st i)) ≤ 64
     → appended (lay_out (take i (queue_of st))) (letter_of (message_in st (slot_of st i))) ≡ lay_out (take (i + 1) (queue_of st))
-lay_out-next st i more room =
+lay_out-next st i more room fits =
     let inside : i < length (queue_of st) = omega (arith, queue-length st) in
     let counted : length (take i (queue_of st)) ≡ i = length-take-le i (queue_of st) (omega arith) in
-    rw (← (queue-at st i more), ← (lay_out-append (take i (queue_of st)) (get_or (queue_of st) i []) (omega arith)), add-one)
+    rw (← (queue-at st i more), ← (lay_out-append (take i (queue_of st)) (get_or (queue_of st) i []) (omega arith) (rw (queue-at st i more) fits)), add-one)
     (ap lay_out (sym (take-suc (queue_of st) i [] inside)))

@@ -3,7 +3,6 @@
 use Prim.Native.Nat.{ℕ, ◌+◌, ◌-◌, ◌≤◌, ◌<◌}
 use mathlib.Core.Path.{◌≡◌, sym, ap, ◌∙◌}
 use mathlib.Core.List.{List, [], ◌∷◌, ◌++◌, append_assoc}
-use native.Mathlib.Nat.{zero-add}
 use native.Mathlib.Numerals.{add-one}
 use native.Mathlib.Omega.{arith}
 use lib.ListN.{length, get_or, take, drop, set, length-append, length-drop, length-replicate, take-append-drop, replicate-append-replicate}
@@ -90,12 +89,9 @@ filled-split n l fits =
     ∙ take-append-add l (zeros n) (n - length l)
     ∙ ap (λ rest. l ++ rest) (take-zeros (n - length l) n (omega arith))
 
--- the first elements of a list written over zeros
-pub filled-pasted : (n : ℕ) (l : List ℕ) (k : ℕ) → k ≤ n → k ≤ length l → paste (zeros n) 0 l k ≡ filled n (take k l)
-filled-pasted n l k fits within =
-    let size : length (take k l) ≡ k = length-take-le k l within in
-    rw (filled-split n (take k l) (omega arith), size, zero-add)
-    (ap (λ rest. take k l ++ rest) (drop-zeros k n fits))
+-- a list written over zeros
+pub filled-over : (n : ℕ) (l : List ℕ) → length l ≤ n → l ++ drop (length l) (zeros n) ≡ filled n l
+filled-over n l fits = rw (filled-split n l fits, drop-zeros (length l) n fits)
 
 -- a part put behind what has been filled in
 pub filled-append : (n : ℕ) (l part : List ℕ) → length l + length part ≤ n → filled n (l ++ part) ≡ pasted (filled n l) (length l) part

@@ -99,8 +99,8 @@ module _ (st : Store) (wide : length st.bytes ≡ 512) (eight : length st.length
   unfolding appended
   length-stored = get_or-set_same st.lengths (free st) l.size 0 (omega arith)
 
-  pub message-stored : l.size ≤ 64 → message_in (appended st l) (free st) ≡ written l
+  pub message-stored : message_in (appended st l) (free st) ≡ written l
   unfolding appended
-  message-stored fits =
+  message-stored =
       rw (length-stored, read-part st.bytes (64 * free st) l.bytes part-within 64 (omega arith), take_all 64 l.bytes (omega arith))
       (take-append-le l.size l.bytes (zeros l.size) (omega arith))

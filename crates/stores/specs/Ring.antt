@@ -1,6 +1,7 @@
 -- The messages of a store, oldest first; what append, drop and settle do to its slots.
 -- Assumes nothing.
-use Rattle.std.specs.Prelude.{ℕ, zero, suc, ◌+◌, ◌-◌, ◌*◌, ◌%◌, ◌≤◌, List, [], ◌∷◌, ◌++◌, map, length, get_or, take, drop, set}
+use Rattle.std.specs.Prelude.{ℕ, zero, suc, ◌+◌, ◌-◌, ◌*◌, ◌%◌, ◌≤◌, min, List, [], ◌∷◌, ◌++◌, map, length, get_or, take, drop, set}
+use Rattle.std.proofs.Math.Nat.{min-le_right}
 use Rattle.model.specs.Words.{filled, zeros}
 use Rattle.model.specs.State.{Message}
 use Rattle.stores.specs.declared.Letter.{Letter}
@@ -33,18 +34,25 @@ queue_of st = messages_from st st.count 0
 abbrev pub written : Letter → Message
 written l = take l.size l.bytes
 
--- a lent letter: its bytes and its length
-abbrev pub lettered : List ℕ → ℕ → Letter
-lettered bytes size = record { bytes = bytes; size = size }
-
+-- a letter has at most 64 bytes: of a longer message, the first 64
 abbrev pub letter_of : Message → Letter
-letter_of m = record { bytes = filled slot_size m; size = length m }
+letter_of m = record { bytes = filled slot_size m; size = min (length m) slot_size; short = min-le_right (length m) slot_size }
 
 -- a list with part of it replaced
-abbrev pub pasted : List ℕ → ℕ → List ℕ → List ℕ
+abbrev pub pasted : {A : Type 0} → List A → ℕ → List A → List A
 pasted l at part = take at l ++ (part ++ drop (at + length part) l)
 
--- a letter put into the slot behind the last
+-- 64 bytes with a length put into the slot behind the last
+unfoldable pub laid_behind : Store → List ℕ → ℕ → Store
+laid_behind st bytes size =
+    record {
+      bytes = pasted st.bytes (slot_size * slot_of st st.count) bytes;
+      lengths = set st.lengths (slot_of st st.count) size;
+      oldest = st.oldest;
+      count = st.count + 1;
+    }
+
+-- a letter put there
 unfoldable pub appended : Store → Letter → Store
 appended st l =
     record {

@@ -1,4 +1,5 @@
 pub mod Answers
 pub mod Decoded
 pub mod Places
+pub mod Ranges
 pub mod Searched

@@ -1,22 +1,15 @@
 -- Where the records of each kind stand: the windows and the ports are runs of records of one kind.
 -- Assumes nothing.
-use Prim.Native.Nat.{ℕ, ◌-◌, ◌≤◌}
-use mathlib.Core.Path.{◌≡◌, refl, ap, sym, ◌∙◌}
-use mathlib.Core.Bool.{true, false, not}
+use Prim.Native.Nat.{ℕ, ◌+◌, ◌-◌, ◌≤◌}
+use mathlib.Core.Path.{◌≡◌, refl}
 use native.Mathlib.Nat.{sub-zero}
 use native.Mathlib.Omega.{arith}
-use borrow.Author.Tests.{eq-eqb, ne_eqb}
-use Rattle.model.specs.Tables.{Tables, records, kind, windows, ports_end}
+use Rattle.model.specs.Tables.{Tables, records, windows, ports_end, ports, channels}
 use Rattle.model.proofs.Searches.{first-least, first-most}
+use Rattle.tables.specs.Layout.{Laid}
 use Rattle.tables.specs.Runs.{other_kind, run_end}
 
 module _ (t : Tables) where
-  pub is-kind : (m r k : ℕ) → k ≡ kind t r → k ≡ m → other_kind m t r ≡ false
-  is-kind m r k e f = ap not (eq-eqb _ m (sym e ∙ f))
-
-  pub is-other : (m r k : ℕ) → k ≡ kind t r → (k ≡ m → ⊥) → other_kind m t r ≡ true
-  is-other m r k e f = ap not (ne_eqb _ m (λ g. f (e ∙ g)))
-
   run-within : (m k : ℕ) → k ≤ records t → run_end m t k ≤ records t
   run-within m k h = omega (arith, first-most (other_kind m t) (records t - k) k)
 
@@ -39,3 +32,19 @@ module _ (t : Tables) where
 
   pub ports-within : ports_end t ≤ records t
   ports-within = rw (ports-run _ refl) (run-within 2 (windows t) windows-within)
+
+  -- counted once: the windows, the ports up to where they end, and the rest
+  pub laid : (w e r : ℕ) → w ≡ windows t → e ≡ ports_end t → r ≡ records t → Laid t w (e - w) (r - e)
+  unfolding ports channels
+  laid w e r h g f =
+      record {
+        windowed = h;
+        ported = cc;
+        channelled = cc;
+        inside = omega (arith, h, g, f, ports-after, ports-within);
+      }
+
+  -- the first channel's record
+  pub first-channel : (w p c : ℕ) → Laid t w p c → w + p ≡ ports_end t
+  unfolding ports
+  first-channel w p c l = omega (arith, l.windowed, l.ported, ports-after)

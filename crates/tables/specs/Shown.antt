@@ -1,10 +1,17 @@
--- What the code's values show of the model: the mode of a port with what belongs to it, and a port row.
+-- What the code's values show of the model: the kind of a record, the mode of a port with what belongs to it, and a port row.
 -- Assumes nothing.
 use Rattle.std.specs.Prelude.{if◌then◌else◌, ℕ, eqb}
 use Rattle.model.specs.Tables.{sampling, queuing, Row}
+use Rattle.model.specs.Load.{by_kind}
 use Rattle.tables.specs.declared.Transfer.{Transfer}
 use Rattle.tables.specs.declared.Transfer.TheVariants.{Sampling, Queuing}
 use Rattle.tables.specs.declared.PortRow.{PortRow}
+use Rattle.tables.specs.declared.RecordKind.{RecordKind}
+use Rattle.tables.specs.declared.RecordKind.TheVariants.{Window, Port, Channel}
+
+-- the kind that byte 0 of a record says: the model's cases
+abbrev pub kind_of : ℕ → RecordKind
+kind_of byte = by_kind byte Window Port Channel
 
 -- the paper's mode, depth and refresh period for each case of a transfer
 abbrev pub mode_of : Transfer → ℕ

@@ -2,23 +2,17 @@
 ghost use Rattle.std.specs.Prelude.{◌+◌, ◌≤◌, ◌≡◌, length};
 ghost use Rattle.model.specs.Words.{byte, word16, word32, blank};
 
-pub fn wide(x: u8) -> u32
-    ensures { result ≡ x }
-{
-    x as u32
-}
-
-pub fn byte_at(t: &[u8], at: usize) -> u8
+fn byte_at(t: &[u8], at: usize) -> u8
     ensures { result ≡ byte t.now at }
 {
-    if at < t.len() { t[at] } else { 0 }
+    t.get(at).copied().unwrap_or(0)
 }
 
 pub fn word16_at(t: &[u8], at: usize) -> u32
     ensures { result ≡ word16 t.now at }
 {
     if at < t.len() {
-        wide(t[at]) + 256 * wide(byte_at(t, at + 1))
+        u32::from(u16::from_le_bytes([t[at], byte_at(t, at + 1)]))
     } else {
         0
     }
@@ -28,14 +22,14 @@ pub fn word16(t: &[u8], at: usize) -> u32
     requires { at + 2 ≤ length t.now }
     ensures { result ≡ word16 t.now at }
 {
-    wide(t[at]) + 256 * wide(t[at + 1])
+    u32::from(u16::from_le_bytes([t[at], t[at + 1]]))
 }
 
 pub fn word32(t: &[u8], at: usize) -> u32
     requires { at + 4 ≤ length t.now }
     ensures { result ≡ word32 t.now at }
 {
-    word16(t, at) + 65536 * word16(t, at + 2)
+    u32::from_le_bytes([t[at], t[at + 1], t[at + 2], t[at + 3]])
 }
 
 // The n bytes from a place on are zero.
@@ -43,13 +37,5 @@ pub fn blank(t: &[u8], n: usize, at: usize) -> bool
     requires { at + n ≤ length t.now }
     ensures { result ≡ blank t.now n at }
 {
-    let end = at + n;
-    let mut k = at;
-    while k < end {
-        if t[k] != 0 {
-            return false;
-        }
-        k += 1;
-    }
-    true
+    t[at..at + n].iter().all(|b| *b == 0)
 }

@@ -1,6 +1,5 @@
-// Where the records of each kind stand. A table is read by these numbers alone: how many windows there are, which is the record of
-// the first port, and where the ports end, which is the record of the first channel. Functions that need them are handed them.
-ghost use Rattle.std.specs.Prelude.{◌<◌, ◌≡◌};
+// Where the records of each kind stand, and what a window's record says. `Tables` has the counts of all three kinds.
+ghost use Rattle.std.specs.Prelude.{◌<◌, ◌≤◌, ◌≡◌};
 ghost use Rattle.model.specs.Tables.{records, kind, windows, ports_end, ports, channels, window_partition, window_length};
 ghost use Rattle.tables.specs.Runs.{run_end};
 
@@ -13,8 +12,8 @@ pub fn records(t: &[u8]) -> usize
     t.len() / RECORD_SIZE
 }
 
-// Byte 0 of a record: 1 window, 2 port, 3 channel.
-pub fn kind(t: &[u8], r: usize) -> u8
+// Byte 0 of a record, as it stands: `Record::kind` reads it so. Over bytes and a number, since the counts of `Tables`, which a `Record` has, come from these bytes.
+pub(crate) fn kind(t: &[u8], r: usize) -> u8
     requires { r < records t.now }
     ensures { result ≡ kind t.now r }
 {
@@ -23,17 +22,11 @@ pub fn kind(t: &[u8], r: usize) -> u8
 
 // Where the run of records of one kind that starts at a record ends: the number of the first record past it.
 fn run_end(t: &[u8], wanted: u8, start: usize) -> usize
+    requires { start ≤ records t.now }
     ensures { result ≡ run_end wanted t.now start }
 {
     let end = records(t);
-    let mut r = start;
-    while r < end {
-        if kind(t, r) != wanted {
-            return r;
-        }
-        r += 1;
-    }
-    r
+    (start..end).find(|r| kind(t, *r) != wanted).unwrap_or(end)
 }
 
 // How many windows there are: the number of the first record that is none.
@@ -44,7 +37,7 @@ pub fn windows(t: &[u8]) -> usize
 }
 
 // Where the ports that start at first_port end: the number of the first record past them.
-pub fn ports_end_from(t: &[u8], first_port: usize) -> usize
+pub(crate) fn ports_end_from(t: &[u8], first_port: usize) -> usize
     requires { first_port ≡ windows t.now }
     ensures { result ≡ ports_end t.now }
 {
@@ -70,7 +63,8 @@ pub fn channel_count(t: &[u8]) -> usize
     records(t) - ports_end(t)
 }
 
-// The partition of window w, or 32 for a mover window.
+// The partition of window w, or 32 for a mover window. Over bytes and a number, as is `window_length`: a step reads one
+// field of the clock's window, and would be no plainer by a record of it.
 pub fn window_partition(t: &[u8], w: usize) -> u8
     requires { w < records t.now }
     ensures { result ≡ window_partition t.now w }

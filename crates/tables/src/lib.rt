@@ -4,21 +4,22 @@
 #![tactic(auto)]
 
 mod bytes;
-mod channels;
+mod counted;
+mod kinds;
 mod layout;
 mod names;
-mod rows;
+mod record;
+mod transfers;
 
-pub use bytes::{blank, wide, word16, word16_at, word32};
-pub use channels::{destination_count, destination_port, id_at, source_port};
+pub use bytes::{blank, word16, word16_at, word32};
+pub use counted::Tables;
 pub use layout::{
-    channel_count, kind, port_count, ports_end, ports_end_from, records, window_length,
-    window_partition, windows,
+    channel_count, port_count, ports_end, records, window_length, window_partition, windows,
 };
 pub use names::same_name;
-pub use rows::{is_mode, port_row, refresh, row_direction, row_largest, row_mode};
+pub use record::Record;
 
-// A record's size in bytes, and its kinds, in byte 0.
+// A record's size in bytes, and its kinds, in byte 0: `Record::kind` answers the byte as it stands, which 21 judges, and `Record::counts_as` what the others take it for.
 pub const RECORD_SIZE: usize = 48;
 
 pub const WINDOW_KIND: u8 = 1;
@@ -64,14 +65,13 @@ pub const CHANNEL_END: usize = 20;
 
 pub const CHANNEL_REST: usize = 28;
 
-// What stands for a partition in a mover window.
+// What stands for a partition in a mover window. A byte, since `window_partition` answers the one that stands in any window, in range or not.
 pub const MOVER: u8 = 32;
 
 // A name's size in bytes.
-
 pub const NAME_LENGTH: usize = 30;
 
-// The modes and the directions of a port.
+// The modes and the directions of a port. They stay bytes: `Record` tells what stands in any record, in range or not.
 pub const SAMPLING: u8 = 0;
 
 pub const QUEUING: u8 = 1;
@@ -79,6 +79,14 @@ pub const QUEUING: u8 = 1;
 pub const SOURCE: u8 = 0;
 
 pub const DESTINATION: u8 = 1;
+
+// What a record is.
+#[derive(Clone, Copy, PartialEq, Eq)]
+pub enum RecordKind {
+    Window,
+    Port,
+    Channel,
+}
 
 // "A port row is either sampling with its refresh period or queuing with its depth."
 #[derive(Clone, Copy)]
@@ -96,7 +104,7 @@ pub struct PortRow {
     pub owner: u8,
     // the mode with what belongs to it
     pub transfer: Transfer,
-    // 0 source, 1 destination
+    // 0 source, 1 destination. A byte as it stands, since `Record::row` ensures the row of any record, in range or not
     pub direction: u8,
     // the largest message in bytes, 1..64
     pub largest: u32,

@@ -10,12 +10,5 @@ pub fn same_name(a: &[u8], at: usize, b: &[u8], bt: usize) -> bool
     requires bt_in_bounds { bt + 30 ≤ length b.now }
     ensures { result ≡ same_name a.now at b.now bt }
 {
-    let mut k = 0;
-    while k < NAME_LENGTH {
-        if a[at + k] != b[bt + k] {
-            return false;
-        }
-        k += 1;
-    }
-    true
+    a[at..at + NAME_LENGTH] == b[bt..bt + NAME_LENGTH]
 }

@@ -11,11 +11,9 @@ use Rattle.model.specs.Tables.{ports as port_count}
 use Rattle.model.specs.Load.{accepts}
 use Rattle.model.specs.State as model
 use Rattle.model.specs.Run.{answers, events_of, joined}
-use Rattle.model.proofs.Tests.{both_left}
+use Rattle.model.proofs.Tests.{both_left, both_right}
 use Rattle.model.proofs.Ranges.{ranged}
 use Rattle.events.specs.declared.clock.Clock.{Clock}
-use Rattle.service_contracts.specs.declared.Layout.{Layout}
-use Rattle.service_contracts.specs.Did.{Laid}
 use Rattle.service_contracts.proofs.Holding.{held_of}
 use Rattle.event_step.specs.Turned.{Ready}
 use Rattle.event_list.specs.Stepped.{Runs}
@@ -34,22 +32,25 @@ pub sound-is : (t : List ℕ) (st : State) → accepts t ≡ true → {b : Bool}
 unfolding is_sound
 sound-is t st a e = (rw a) ∙ sym e
 
+-- what a state that passes test 29 meets
+pub sound-parts : (t : List ℕ) (st : State) → is_sound t st ≡ true → (accepts t ≡ true) × (state_fits t st ≡ true)
+unfolding is_sound
+sound-parts t st s = (both_left (accepts t) (state_fits t st) s, both_right (accepts t) (state_fits t st) s)
+
 -- a state that passes test 29 is ready
-pub ready_of :
-    (t : Tables) (lay : Layout) (st : State) → accepts t ≡ true → Laid t lay → state_fits t st ≡ true → length st.numbers ≡ 832 → length st.bytes ≡ 32768
-    → Ready t lay (record { window = st.window; time = st.time }) st.modes st.numbers st.bytes
-ready_of t lay st a l f n b =
+pub ready_of : (t : Tables) (st : State) → accepts t ≡ true → state_fits t st ≡ true → Ready t (record { window = st.window; time = st.time }) st.modes st.numbers st.bytes
+ready_of t st a f =
     let r = ranged t (shown_state t st) (both_left (model.in_range t (shown_state t st)) (indexed t st.numbers) f) in
-    record { held = held_of a l n b r; ranged = r }
+    record { held = held_of a r; ranged = r }
 
 -- the events run and the ports put together: the list is carried out
 pub carried-out :
-    (t : Tables) (lay : Layout) (st : State) (events buffer : List ℕ) {clock : Clock} {modes numbers bytes buffer' numbers' bytes' : List ℕ} {n : ℕ} → length events % 80 ≡ 0 → n ≡ port_count t
-    → Runs t lay events (record { window = st.window; time = st.time }) st.modes st.numbers st.bytes buffer clock modes numbers bytes buffer'
+    (t : Tables) (st : State) (events buffer : List ℕ) {clock : Clock} {modes numbers bytes buffer' numbers' bytes' : List ℕ} {n : ℕ} → length events % 80 ≡ 0 → n ≡ port_count t
+    → Runs t events (record { window = st.window; time = st.time }) st.modes st.numbers st.bytes buffer clock modes numbers bytes buffer'
     → PutTogether numbers bytes n st.numbers st.bytes numbers' bytes'
     → CarriedOut t st events buffer (record { window = clock.window; time = clock.time; modes = modes; numbers = numbers'; bytes = bytes' }) buffer'
 unfolding settled_as events_of
-carried-out t lay st events buffer whole n run put =
+carried-out t st events buffer whole n run put =
     let all : 80 * (length events / 80) ≡ length events = omega (arith, whole) in
     record {
       state = (rw (put.numbers_put, put.bytes_put, n)) ∙ ap (settled_as st) run.left;

@@ -1,94 +1,66 @@
-// A list of whole records under tables and a state that are tested here: test 29, and the list carried out over local arrays.
+// A list of whole records under tables and a state that are tested here: test 29, and the list carried out over copies of the state's modes and ports.
 #![tactic(auto)]
 
 ghost use Rattle.std.specs.Prelude.{◌≡◌, true, ◌≤◌, ◌%◌, length};
 ghost use Rattle.model.specs.Load.{accepts};
-ghost use Rattle.service_contracts.specs.Did.{Laid};
 ghost use Rattle.states.specs.Shown.{state_fits, is_sound};
 ghost use Rattle.tested_run.specs.Carried.{CarriedOut};
 
+use event_list::run_events;
 use events::Clock;
-use loader::Verdict;
-use service_contracts::Layout;
+use ports::Ports;
+use settled_form::put_together;
 use states::State;
-
-// How many windows, ports and channels there are.
-pub fn layout(t: &[u8]) -> Layout
-    ensures { Laid t.now result }
-{
-    Layout {
-        windows: tables::windows(t),
-        ports: tables::port_count(t),
-        channels: tables::channel_count(t),
-    }
-}
+use tables::Tables;
 
 pub fn is_accepted(t: &[u8]) -> bool
     ensures { result ≡ accepts t.now }
 {
-    let verdict = loader::judge(t);
-    match verdict {
-        Verdict::Accepted => true,
-        Verdict::Refused(_, _) => false,
-    }
+    loader::judge(t).is_ok()
 }
 
 // The state's numbers are in their ranges, for accepted tables.
-pub fn state_fits(t: &[u8], lay: Layout, state: State) -> bool
-    requires { (accepts t.now ≡ true) × Laid t.now lay }
-    ensures { result ≡ state_fits t.now state }
+pub fn state_fits(tables: Tables, state: State) -> bool
+    requires { accepts tables.bytes.now ≡ true }
+    ensures { result ≡ state_fits tables.entry.bytes.now state }
 {
-    let modes = state.modes;
-    let numbers = state.numbers;
-    state_test::in_range(t, lay, state.window, &modes, &numbers)
+    state_test::in_range(tables, state.window, &state.modes, &state.numbers)
 }
 
+#[tactic(auto, unfolding(states::specs::Shown::is_sound))]
 pub fn sound(t: &[u8], state: State) -> bool
     ensures { result ≡ is_sound t.now state }
 {
-    if !is_accepted(t) {
-        return false;
-    }
-    state_fits(t, layout(t), state)
+    is_accepted(t) && state_fits(Tables::of(t), state)
 }
 
-// The events, over local arrays, and the state put together in settled form.
-pub fn run_list(t: &[u8], lay: Layout, state: State, events: &[u8], answers: &mut [u8]) -> State
-    requires t_value { (accepts t.now ≡ true) × Laid t.now lay × (state_fits t.now state ≡ true) }
+// The events, over copies of the state's modes and ports, and the state put together in settled form.
+pub fn run_list(tables: Tables, state: State, events: &[u8], answers: &mut [u8]) -> State
+    requires sound { (accepts tables.bytes.now ≡ true) × (state_fits tables.bytes.now state ≡ true) }
     requires events_len { (length events.now % 80 ≡ 0) × (length events.now ≤ length answers.old) }
-    ensures { CarriedOut t.now state events.now answers.old result answers.new }
+    ensures { CarriedOut tables.entry.bytes.now state events.now answers.old result answers.new }
 {
-    let mut modes = state.modes;
-    let mut numbers = state.numbers;
-    let mut bytes = state.bytes;
+    let State {
+        window,
+        time,
+        mut modes,
+        numbers,
+        bytes,
+    } = state;
+    let mut ports = Ports { numbers, bytes };
+    let mut settled = ports;
     let clock = Clock {
-        window: state.window as usize,
-        time: state.time,
+        window: window as usize,
+        time,
     };
-    let last = event_list::run_events(
-        t,
-        lay,
-        clock,
-        &mut modes,
-        &mut numbers,
-        &mut bytes,
-        events,
-        answers,
-    );
-    let mut settled_numbers = state.numbers;
-    let mut settled_bytes = state.bytes;
-    settled_form::put_together(
-        &numbers,
-        &bytes,
-        lay.ports,
-        &mut settled_numbers,
-        &mut settled_bytes,
-    );
+    let last = run_events(tables, clock, &mut modes, &mut ports, events, answers);
+    put_together(&ports, tables.ports, &mut settled);
+    let Ports { numbers, bytes } = settled;
     State {
         window: last.window as u32,
         time: last.time,
         modes,
-        numbers: settled_numbers,
-        bytes: settled_bytes,
+        numbers,
+        bytes,
     }
 }

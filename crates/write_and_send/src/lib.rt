@@ -1,87 +1,65 @@
 // A message put into a port's store: a write replaces, a send appends or loses.
 #![tactic(auto)]
 
-ghost use Rattle.std.specs.Prelude.{◌≡◌, true, ◌≤◌, length};
+ghost use Rattle.std.specs.Prelude.{◌≤◌, ◌<◌};
 ghost use Rattle.model.specs.State.{with_queue, offer};
-ghost use Rattle.model.specs.Events.{known};
 ghost use Rattle.model.specs.Services.{stored, put};
 ghost use Rattle.tables.specs.Shown.{row_of};
 ghost use Rattle.events.specs.Shown.{call_of};
-ghost use Rattle.stores.specs.Ring.{written, lettered};
+ghost use Rattle.stores.specs.Ring.{written};
 ghost use Rattle.ports.specs.Held.{port_at, PortPut};
-ghost use Rattle.service_contracts.specs.Served.{Lent, Fits, Serves};
+ghost use Rattle.service_contracts.specs.Served.{Fits, Serves};
 
-use events::{Answer, Fields};
+use events::{Answer, BODY_AT, Call, Refusal};
+use ports::{COUNT, Ports};
+use stores::{Letter, Store};
 use tables::{PortRow, Transfer};
 
 // A message offered to a store: it is lost where the store holds its depth.
-fn offer(numbers: &mut [u32], bytes: &mut [u8], k: usize, depth: u32, letter: &[u8], size: u32)
-    requires lent { Lent numbers.old bytes.old k }
-    requires depth_bound { (depth ≤ 8) × (size ≤ 64) }
-    requires letter_len { length letter.now ≡ 64 }
-    ensures { PortPut numbers.old bytes.old numbers.new bytes.new k (with_queue (port_at numbers.old bytes.old k) (offer depth (port_at numbers.old bytes.old k).queue (written (lettered letter.now size)))) }
+fn offer(ports: &mut Ports, k: usize, depth: u32, letter: &Letter)
+    requires { (k < 64) × (depth ≤ 8) }
+    ensures { PortPut ports.old.numbers ports.old.bytes ports.new.numbers ports.new.bytes k (with_queue (port_at ports.old.numbers ports.old.bytes k) (offer depth (port_at ports.old.numbers ports.old.bytes k).queue (written letter.now))) }
 {
-    if depth <= ports::number(numbers, k, ports::COUNT) {
+    if depth <= ports.number(k, COUNT) {
         return;
     }
-    let st = ports::take_store(numbers, bytes, k);
-    ports::put_store(numbers, bytes, k, stores::append(st, letter, size));
+    let mut st = ports.take_store(k);
+    st.append(letter);
+    ports.put_store(k, &st);
 }
 
 // A sampling store keeps the new message alone; a queuing store takes it or loses it.
-pub fn store(
-    numbers: &mut [u32],
-    bytes: &mut [u8],
-    k: usize,
-    row: PortRow,
-    letter: &[u8],
-    size: u32,
-)
-    requires fits { Fits numbers.old bytes.old k row }
-    requires size_bound { size ≤ 64 }
-    requires letter_len { length letter.now ≡ 64 }
-    ensures { PortPut numbers.old bytes.old numbers.new bytes.new k (with_queue (port_at numbers.old bytes.old k) (stored (row_of row) (port_at numbers.old bytes.old k).queue (written (lettered letter.now size)))) }
+pub fn store(ports: &mut Ports, k: usize, row: PortRow, letter: &Letter)
+    requires { Fits ports.old.numbers ports.old.bytes k row }
+    ensures { PortPut ports.old.numbers ports.old.bytes ports.new.numbers ports.new.bytes k (with_queue (port_at ports.old.numbers ports.old.bytes k) (stored (row_of row) (port_at ports.old.numbers ports.old.bytes k).queue (written letter.now))) }
 {
-    let transfer = row.transfer;
-    match transfer {
+    match row.transfer {
         Transfer::Sampling(_) => {
-            ports::put_store(
-                numbers,
-                bytes,
-                k,
-                stores::append(stores::empty(), letter, size),
-            );
+            let mut st = Store::empty();
+            st.append(letter);
+            ports.put_store(k, &st);
         }
         Transfer::Queuing(depth) => {
-            offer(numbers, bytes, k, depth, letter, size);
+            offer(ports, k, depth, letter);
         }
     }
 }
 
 // 2 and 7: length 0, 3; length above the largest, 4; not a source, 5; else stored.
-pub fn put(
-    numbers: &mut [u32],
-    bytes: &mut [u8],
-    k: usize,
-    row: PortRow,
-    event: &[u8],
-    f: Fields,
-    doer: u8,
-) -> Answer
-    requires fits { Fits numbers.old bytes.old k row }
-    requires event_len { (length event.now ≡ 80) × (known f.code ≡ true) }
-    ensures { Serves numbers.old bytes.old numbers.new bytes.new k doer result (put (row_of row) event.now (call_of f) (port_at numbers.old bytes.old k)) }
+pub fn put(ports: &mut Ports, k: usize, row: PortRow, call: Call, doer: u8) -> Answer
+    requires { Fits ports.old.numbers ports.old.bytes k row }
+    ensures { Serves ports.old.numbers ports.old.bytes ports.new.numbers ports.new.bytes k doer result (put (row_of row) call.entry.event.now (call_of call.entry) (port_at ports.old.numbers ports.old.bytes k)) }
 {
-    if f.size == 0 {
-        return events::refusal(events::INVALID_PARAM, doer);
+    if call.size == 0 {
+        return events::refusal(Refusal::InvalidParam, doer);
     }
-    if row.largest < f.size {
-        return events::refusal(events::INVALID_CONFIG, doer);
+    if row.largest < call.size {
+        return events::refusal(Refusal::InvalidConfig, doer);
     }
-    if !events::directed(f.code, row.direction) {
-        return events::refusal(events::INVALID_MODE, doer);
+    if !events::directed(call.code, row.direction) {
+        return events::refusal(Refusal::InvalidMode, doer);
     }
-    let l = stores::letter_of(event, events::BODY_AT, f.size);
-    store(numbers, bytes, k, row, &l.bytes, l.size);
+    let letter = Letter::of(&call.event[BODY_AT..BODY_AT + call.size as usize]);
+    store(ports, k, row, &letter);
     events::done(doer)
 }

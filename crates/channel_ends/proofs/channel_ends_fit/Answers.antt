@@ -1,47 +1,31 @@
 -- `channel_ends::channel_ends_fit` meets its contract: each test is a part of the definition, in its order.
 -- Assumes nothing.
-use mathlib.Core.Path.{ap}
-use mathlib.Core.Bool.{not}
-use Rattle.model.specs.Load.{channel_ends_fit}
-use Rattle.tables.proofs.Answers.{fails, holds}
-use Rattle.channel_ends.proofs.ChannelEnds.{asked, source-rowed, source_known, source-there, count_of}
+use Rattle.std.proofs.Common.{sym, arith}
+use Rattle.std.proofs.lemmas.Grind.{common_steps}
+use Rattle.std.proofs.lemmas.Bool.Decides.{nat_tests}
+use Rattle.channel_ends.proofs.ChannelEnds.{in-turn, sourceless}
 use Rattle.channel_ends.proofs.channel_ends_fit.Goals as goal
 
-pub returns-then-not-source_fits : goal.returns-then-not-source_fits
-unfolding channel_ends_fit
-returns-then-not-source_fits c = rw (fails c.source_fits.ensures c.if-not-source_fits.true)
+pub returns-in_default : goal.returns-in_default
+returns-in_default c =
+    let r = c.args.channel in
+    sym (sourceless r.tables.bytes.now r.number (rw c.id.ensures at c.in_default.ensures.none))
 
-pub id_record-source-requires : goal.id_record-source-requires
-id_record-source-requires c = asked c.requires c.end_at.ensures (source-rowed _ _ (holds c.source_fits.ensures c.if-not-source_fits.false))
+pub destinations_fit-requires : goal.destinations_fit-requires
+destinations_fit-requires c = record { has = rw c.id.ensures at c.in-Some.ensures.some.has; same = c.in-Some.ensures.some.same }
 
-pub returns-then-not-destinations_fit : goal.returns-then-not-destinations_fit
-unfolding channel_ends_fit
-returns-then-not-destinations_fit c = rw (holds c.source_fits.ensures c.if-not-source_fits.false, fails c.destinations_fit.ensures c.if-not-destinations_fit.true)
+pub returns-then-count_fits : goal.returns-then-count_fits
+returns-then-count_fits c =
+    let r = c.args.channel in
+    let found = c.in-Some.ensures.some in
+    let parts = in-turn r.tables.bytes.now r.number c.in-Some.source.number (rw c.id.ensures at found.has) in
+    let same = found.same in
+    grind (arith, common_steps, nat_tests)
 
-pub row_mode-requires : goal.row_mode-requires
-row_mode-requires c =
-    let placed = c.requires in
-    let fits = holds c.source_fits.ensures c.if-not-source_fits.false in
-    source-there (source_known placed fits c.end_at.ensures c.id_record-source.ensures)
-
-pub returns-then-not-count_fits : goal.returns-then-not-count_fits
-unfolding channel_ends_fit
-returns-then-not-count_fits c =
-    let fits = holds c.source_fits.ensures c.if-not-source_fits.false in
-    let known = source_known c.requires fits c.end_at.ensures c.id_record-source.ensures in
-    let counted = count_of known c.row_mode.ensures c.count_fits.ensures in
-    rw (fits, holds c.destinations_fit.ensures c.if-not-destinations_fit.false, fails counted c.if-not-count_fits.true)
-
-pub returns : goal.returns
-unfolding channel_ends_fit
-returns c =
-    let fits = holds c.source_fits.ensures c.if-not-source_fits.false in
-    let known = source_known c.requires fits c.end_at.ensures c.id_record-source.ensures in
-    let counted = count_of known c.row_mode.ensures c.count_fits.ensures in
-    rw (fits, holds c.destinations_fit.ensures c.if-not-destinations_fit.false, holds counted c.if-not-count_fits.false) (ap not c.named_again.ensures)
-
-pub destinations_fit-requires-clause-source_record : goal.destinations_fit-requires-clause-source_record
-destinations_fit-requires-clause-source_record c =
-    let placed = c.requires in
-    let fits = holds c.source_fits.ensures c.if-not-source_fits.false in
-    source_known placed fits c.end_at.ensures c.id_record-source.ensures
+pub returns-else-count_fits : goal.returns-else-count_fits
+returns-else-count_fits c =
+    let r = c.args.channel in
+    let found = c.in-Some.ensures.some in
+    let parts = in-turn r.tables.bytes.now r.number c.in-Some.source.number (rw c.id.ensures at found.has) in
+    let same = found.same in
+    grind (arith, common_steps, nat_tests)

@@ -1,31 +1,22 @@
 -- `channel_ends::destination_fits` meets its contract: `destination-end` says the test of an end that has a row.
 -- Assumes nothing.
-use mathlib.Core.Path.{sym, ◌∙◌}
-use native.Mathlib.Omega.{arith}
+use Rattle.std.proofs.Common.{◌∙◌, sym}
 use Rattle.model.specs.Load.{end_fits}
-use Rattle.tables.proofs.Places.{ports-after}
-use Rattle.tables.proofs.Answers.{fails, holds}
-use Rattle.channel_ends.proofs.ChannelEnds.{has-row, there, in-record, source-there, destination-end}
+use Rattle.channel_ends.proofs.ChannelEnds.{rowed, rowless, destination-end}
 use Rattle.channel_ends.proofs.destination_fits.Goals as goal
 
-pub overflow_sub-first_channel : goal.overflow_sub-first_channel
-overflow_sub-first_channel c = omega (arith, ports-after c.args.t.now)
+pub returns-in-Some : goal.returns-in-Some
+returns-in-Some c =
+    let r = c.args.channel in
+    let t = r.tables.bytes.now in
+    let found = c.in-Some.ensures.some in
+    let its = c.requires.source_row in
+    let own = rowed t _ _ (rw c.id.ensures at found.has) in
+    let from = rowed t _ _ its.has in
+    (rw (found.same, its.same, own.stands, from.stands) at c.takes_from.ensures) ∙ sym (destination-end t r.number c.args.j c.requires.j_nonzero.0 own.has)
 
-pub returns-then-not-is_port : goal.returns-then-not-is_port
+pub returns-in-None : goal.returns-in-None
 unfolding end_fits
-returns-then-not-is_port c =
-    let test = has-row c.requires.placed c.end_at-id.ensures c.is_port.ensures in
-    rw (fails test c.if-not-is_port.true)
-
-pub returns : goal.returns
-returns c =
-    let test = has-row c.requires.placed c.end_at-id.ensures c.is_port.ensures in
-    let stands = in-record c.requires.placed c.end_at-id.ensures c.id_record.ensures in
-    (rw (stands, c.requires.source_record.stands) at c.takes_from.ensures)
-    ∙ sym (destination-end _ _ _ c.requires.j_nonzero.0 (holds test c.if-not-is_port.false))
-
-pub takes_from-requires-clause-q_bound : goal.takes_from-requires-clause-q_bound
-takes_from-requires-clause-q_bound c = there c.requires.placed c.end_at-id.result (holds c.is_port.ensures c.if-not-is_port.false) c.id_record.ensures
-
-pub takes_from-requires-clause-source_bound : goal.takes_from-requires-clause-source_bound
-takes_from-requires-clause-source_bound c = source-there c.requires.source_record
+returns-in-None c =
+    let t = c.args.channel.tables.bytes.now in
+    rw (rowless t _ (rw c.id.ensures at c.in-None.ensures.none))

@@ -1,14 +1,13 @@
-use mathlib.Core.Path.{◌∙◌}
-use native.Mathlib.Omega.{arith}
+-- `channel_ends::destinations_fit` meets its contract: `all` looks at each destination.
+-- Assumes nothing.
+use Rattle.std.proofs.Common.{◌∙◌, rules, refl, sym}
 use Rattle.model.specs.Load.{end_fits}
-use Rattle.model.proofs.Searches.{all_more}
-use Rattle.tables.proofs.Answers.{holds}
+use Rattle.tables.proofs.Ranges.{all-in_range}
+use Rattle.channel_ends.proofs.Searched.{destinations-whole}
 use Rattle.channel_ends.proofs.destinations_fit.Goals as goal
 
-pub loop-j-preserved : goal.loop-j-preserved
-loop-j-preserved c =
-    let s = c in
-    let given = s.args in
-    let at = c.loop-j in
-    let test = holds c.destination_fits.ensures c.if-not-destination_fits.false in
-    (omega arith, at.invariant.1, at.invariant.2 ∙ all_more (end_fits given.t.now given.r) _ at.j c.loop-j-test.true test)
+pub returns : goal.returns
+returns c =
+    let r = c.args.channel in
+    let t = r.tables.bytes.now in
+    all-in_range (end_fits t r.number) 1 c.end_count.result _ _ _ refl c.all.ensures.ran (λ y b q k. search rules) ∙ sym (destinations-whole t r.number _ c.end_count.ensures.count)

@@ -1,16 +1,13 @@
-use mathlib.Core.Path.{sym, ◌∙◌}
+-- `channel_ends::named_again` meets its contract: `any` looks at each end.
+-- Assumes nothing.
+use Rattle.std.proofs.Common.{◌∙◌, rules, refl, sym}
 use Rattle.model.specs.Load.{named_before}
-use Rattle.model.proofs.Searches.{any-more}
+use Rattle.tables.proofs.Ranges.{any-in_range}
 use Rattle.channel_ends.proofs.Searched.{again-whole}
 use Rattle.channel_ends.proofs.named_again.Goals as goal
 
-pub loop-j-init : goal.loop-j-init
-loop-j-init c = (c.end_count-end.ensures, again-whole _ _ _ c.end_count-end.ensures)
-
-pub loop-j-preserved : goal.loop-j-preserved
-loop-j-preserved c =
-    let s = c in
-    let x = s.args in
-    let at = c.loop-j in
-    let test = sym c.named_before.ensures ∙ c.if-named_before.false in
-    (at.invariant.0, at.invariant.1 ∙ any-more (named_before x.t.now x.r) _ at.j c.loop-j-test.true test)
+pub returns : goal.returns
+returns c =
+    let r = c.args.channel in
+    let t = r.tables.bytes.now in
+    any-in_range (named_before t r.number) 0 c.end_count.result _ _ _ refl c.any.ensures.ran (λ y b q k. search rules) ∙ sym (again-whole t r.number _ c.end_count.ensures.count)

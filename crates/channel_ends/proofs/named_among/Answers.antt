@@ -1,15 +1,12 @@
-use mathlib.Core.Path.{◌∙◌}
-use borrow.Author.Tests.{ne_eqb}
-use Rattle.model.proofs.Searches.{any-more}
+-- `channel_ends::named_among` meets its contract: `any` looks at each of the ends.
+-- Assumes nothing.
+use Rattle.std.proofs.Common.{◌∙◌, rules, refl, sym}
+use Rattle.tables.proofs.Ranges.{any-in_range}
 use Rattle.channel_ends.proofs.Searched.{is_end, among-whole}
 use Rattle.channel_ends.proofs.named_among.Goals as goal
 
-pub loop-i-init : goal.loop-i-init
-loop-i-init c = among-whole _ _ _ _
-
-pub loop-i-preserved : goal.loop-i-preserved
-loop-i-preserved c =
+pub returns : goal.returns
+returns c =
     let x = c.args in
-    let at = c.loop-i in
-    let test = ne_eqb _ _ (λ e. c.if-end_at-id.false (c.end_at.ensures ∙ e)) in
-    at.invariant ∙ any-more (is_end x.t.now x.id x.q) x.n at.i c.loop-i-test.true test
+    let r = x.channel in
+    any-in_range (is_end r.tables.bytes.now x.id r.number) 0 x.n _ _ _ refl c.any.ensures.ran (λ y b q k. search rules) ∙ sym (among-whole r.tables.bytes.now x.id x.n r.number)

@@ -1,13 +1,13 @@
-use Prim.Native.Nat.{ℕ}
-use mathlib.Core.Path.{ap, sym, ◌∙◌}
-use Rattle.model.specs.Load.{named_among}
-use Rattle.model.proofs.Searches.{any-more}
+-- `channel_ends::named_in_earlier` meets its contract: `any` looks at each earlier channel.
+-- Assumes nothing.
+use Rattle.std.proofs.Common.{rules, refl}
+use Rattle.tables.proofs.Ranges.{any-in_range}
 use Rattle.channel_ends.proofs.Searched.{names}
 use Rattle.channel_ends.proofs.named_in_earlier.Goals as goal
 
-pub loop-q-preserved : goal.loop-q-preserved
-loop-q-preserved c =
+pub returns : goal.returns
+returns c =
     let x = c.args in
-    let at = c.loop-q in
-    let named = c.named_among.ensures ∙ ap (λ (n : ℕ). named_among x.t.now x.id n at.q) c.end_count.ensures in
-    at.invariant ∙ any-more (names x.t.now x.id) x.r at.q c.loop-q-test.true (sym named ∙ c.if-named_among.false)
+    let t = x.channel.tables.bytes.now in
+    let looked = any-in_range (names t x.id) c.first_channel.result x.channel.number _ _ _ refl c.any.ensures.ran (λ y b q k. search rules) in
+    rw (← c.first_channel.ensures) looked

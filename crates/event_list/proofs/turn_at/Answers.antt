@@ -15,14 +15,14 @@ use Rattle.event_list.proofs.turn_at.Goals as goal
 pub returns : goal.returns
 unfolding answer
 returns c =
-    let t = c.args.t.now in
+    let t = c.args.tables.bytes.now in
     let i = c.args.i in
     let a = c.args.answers.now in
     let es = c.args.events.now in
-    let st = shown t (clock_of c.args.clock) c.args.modes.now c.args.numbers.now c.args.bytes.now in
+    let st = shown t (clock_of c.args.clock) c.args.modes.now c.args.ports.now.numbers c.args.ports.now.bytes in
     let size : 80 * i + 80 - 80 * i ≡ 80 = omega arith in
     let done = subst
-    (λ k. Answers t (take k (drop (80 * i) es)) c.args.clock c.args.modes.now c.args.numbers.now c.args.bytes.now c.turn-turned.result.answer c.turn-turned.result.clock c.turn-turned.new.modes c.turn-turned.new.numbers c.turn-turned.new.bytes)
+    (λ k. Answers t (take k (drop (80 * i) es)) c.args.clock c.args.modes.now c.args.ports.now.numbers c.args.ports.now.bytes c.turn-turned.result.answer c.turn-turned.result.clock c.turn-turned.new.modes c.turn-turned.new.ports.numbers c.turn-turned.new.ports.bytes)
     size c.turn-turned.ensures
     in
     let e = take 80 (drop (80 * i) es) in

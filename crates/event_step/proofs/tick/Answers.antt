@@ -1,33 +1,23 @@
 -- `event_step::tick` meets its contract: the next window, or the first. Assumes nothing.
-use Prim.Native.Nat.{suc, ◌+◌, ◌≤◌, ◌<◌}
-use mathlib.Core.Path.{sym, ◌∙◌, ap}
-use native.Mathlib.Omega.{arith}
-use native.Mathlib.Numerals.{add-one}
+use Rattle.std.proofs.Common.{suc, ◌+◌, ◌≤◌, ◌<◌, sym, ◌∙◌, ap, add-one, arith}
+use mathlib.Core.Path.{ap₂}
 use Rattle.model.specs.Tables.{windows}
-use Rattle.model.specs.State.{wrap}
-use Rattle.model.proofs.Accepted.{accepted}
+use Rattle.model.specs.State as model
 use Rattle.event_step.specs.Turned.{clock_of}
 use Rattle.event_step.proofs.Laws
 use Rattle.event_step.proofs.tick.Goals as goal
-
-pub window_length-requires : goal.window_length-requires
-window_length-requires c =
-    let t = c.args.t.now in
-    let a = accepted t c.requires.0 in
-    omega (arith, c.requires.2, a.ports_after, a.channels_after)
-
-pub returns-then-window-lay : goal.returns-then-window-lay
-returns-then-window-lay c =
-    let t = c.args.t.now in
-    let k = c.args.clock in
-    let time = c.later-time.ensures ∙ ap (λ x. wrap (k.time + x)) c.window_length.ensures in
-    let next : suc k.window < windows t = omega (arith, c.requires.1.windowed, c.if-window-lay.true) in
-    rw (time, add-one k.window) (sym (Laws.tick-next t (clock_of k) next))
+use Rattle.event_step.proofs.tick.Goals.{then-next-tables, else-next-tables}
 
 pub returns : goal.returns
 returns c =
-    let t = c.args.t.now in
+    let t = c.args.tables.bytes.now in
     let k = c.args.clock in
-    let time = c.later-time.ensures ∙ ap (λ x. wrap (k.time + x)) c.window_length.ensures in
-    let last : windows t ≤ suc k.window = omega (arith, c.requires.1.windowed, c.if-window-lay.false) in
-    rw time (sym (Laws.tick-first t (clock_of k) last))
+    let time = c.later.ensures ∙ ap (λ x. model.wrap (k.time + x)) c.window_length.ensures in
+    elim c.if-next-tables.branch [
+      | then-next-tables w ↦
+          let next : suc k.window < windows t = omega arith in
+          ap₂ (λ w x. record { window = w; time = x }) (w.result-is ∙ add-one k.window) time ∙ sym (Laws.tick-next t (clock_of k) next)
+      | else-next-tables w ↦
+          let last : windows t ≤ suc k.window = omega arith in
+          ap₂ (λ w x. record { window = w; time = x }) w.result-is time ∙ sym (Laws.tick-first t (clock_of k) last)
+    ]

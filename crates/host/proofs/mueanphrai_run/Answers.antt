@@ -1,5 +1,6 @@
 -- `host::mueanphrai_run` meets its contract, by the size of the buffer: the kernel's call, handed back. Assumes nothing.
 use Prim.Native.Nat.{◌%◌}
+use mathlib.Core.Path.{◌∙◌}
 use lib.Dec.{eqb}
 use lib.ListN.{length}
 use borrow.Author.Tests.{eq-eqb, ne_eqb}
@@ -10,7 +11,7 @@ pub returns-then-state-ne-STATE_SIZE : goal.returns-then-state-ne-STATE_SIZE
 returns-then-state-ne-STATE_SIZE c =
     let s = c.args in
     let from = s.state.now in
-    unsized s.tables.now from _ s.events.now s.answers.now (ne_eqb (length from) 36120 c.if-state-ne-STATE_SIZE.true) c.refused_size.ensures
+    unsized s.tables.now from _ s.events.now s.answers.now (ne_eqb (length from) 36120 c.if-state-ne-STATE_SIZE.true) (c.number.ensures ∙ c.refused_size.ensures)
 
 pub returns : goal.returns
 returns c =

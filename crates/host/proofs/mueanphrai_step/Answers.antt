@@ -1,4 +1,5 @@
 -- `host::mueanphrai_step` meets its contract, by the size of the buffer: the kernel's call, handed back. Assumes nothing.
+use mathlib.Core.Path.{◌∙◌}
 use lib.Dec.{eqb}
 use lib.ListN.{length}
 use borrow.Author.Tests.{eq-eqb, ne_eqb}
@@ -9,7 +10,7 @@ pub returns-then-state-ne-STATE_SIZE : goal.returns-then-state-ne-STATE_SIZE
 returns-then-state-ne-STATE_SIZE c =
     let s = c.args in
     let from = s.state.now in
-    unsized s.tables.now from _ s.event.now s.answers.now (ne_eqb (length from) 36120 c.if-state-ne-STATE_SIZE.true) c.refused_size.ensures
+    unsized s.tables.now from _ s.event.now s.answers.now (ne_eqb (length from) 36120 c.if-state-ne-STATE_SIZE.true) (c.number.ensures ∙ c.refused_size.ensures)
 
 pub returns : goal.returns
 returns c =

@@ -3,4 +3,4 @@ use Rattle.runner_text.proofs.Printed.{load-sound}
 use Rattle.runner.proofs.run_tables.Goals as goal
 
 pub run_all-requires : goal.run_all-requires
-run_all-requires g c = load-sound c.args.t.now c.load-loaded.result c.load-loaded.ensures c.in-Accepted.is
+run_all-requires g c = load-sound c.args.t.now c.in-Ok.loaded c.in-Ok.ensures

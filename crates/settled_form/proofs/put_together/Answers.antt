@@ -1,21 +1,20 @@
-use mathlib.Core.Path.{refl, ◌∙◌}
-use native.Mathlib.Omega.{arith}
 use Rattle.settled_form.proofs.Parts.{numbers-none, bytes-none, numbers-next, bytes_next}
 use Rattle.settled_form.proofs.put_together.Goals as goal
 
 pub loop-k-init : goal.loop-k-init
 loop-k-init c =
-    let a = c.args in
-    (omega arith, refl, refl, numbers-none a.numbers.now a.bytes.now a.out_numbers.now, bytes-none a.numbers.now a.bytes.now a.out_bytes.now)
+    let ports = c.args.ports.now in
+    let out = c.args.out.now in
+    record { numbers_put = numbers-none ports.numbers ports.bytes out.numbers; bytes_put = bytes-none ports.numbers ports.bytes out.bytes }
 
 pub loop-k-preserved : goal.loop-k-preserved
 loop-k-preserved c =
-    let a = c.args in
-    let l = c.loop-k in
-    let put = c.put_port in (
-      omega arith,
-      put.auto.out_numbers ∙ l.invariant.1,
-      put.auto.out_bytes ∙ l.invariant.2,
-      numbers-next a.numbers.now a.bytes.now a.out_numbers.now l.k l.invariant.3 put.ensures.numbers_laid,
-      bytes_next a.numbers.now a.bytes.now a.out_bytes.now l.k l.invariant.4 put.ensures.bytes_laid,
-    )
+    let ports = c.args.ports.now in
+    let out = c.args.out.now in
+    let k = c.loop-k.k in
+    let so_far = c.loop-k.invariant in
+    let put = c.put_port.ensures in
+    record {
+      numbers_put = numbers-next ports.numbers ports.bytes out.numbers k so_far.numbers_put put.numbers_laid;
+      bytes_put = bytes_next ports.numbers ports.bytes out.bytes k so_far.bytes_put put.bytes_laid;
+    }

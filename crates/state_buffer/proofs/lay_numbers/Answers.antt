@@ -17,11 +17,7 @@ loop-i-preserved c =
     let numbers = s.numbers.now in
     let so_far = bytes_of_all (take l.i numbers) in
     let long : length so_far ≡ 4 * l.i = all-length (take l.i numbers) ∙ ap (λ n. 4 * n) (length-take-le l.i numbers (omega arith)) in
-    let laid = c.lay_number.ensures in (
-      omega arith,
-      omega (arith, c.out-1.given, l.invariant.1),
-      laid
-          ∙ ap₂ (λ o k. pasted o (s.at + k) (bytes32 (get_or numbers l.i 0))) l.invariant.2 (sym long)
-          ∙ pasted-behind s.out.now s.at so_far (bytes32 (get_or numbers l.i 0)) (omega arith)
-          ∙ ap (pasted s.out.now s.at) (sym (all-next numbers l.i (omega arith))),
-    )
+    c.lay_number.ensures
+    ∙ ap₂ (λ o k. pasted o (s.at + k) (bytes32 (get_or numbers l.i 0))) l.invariant (sym long)
+    ∙ pasted-behind s.out.now s.at so_far (bytes32 (get_or numbers l.i 0)) (omega arith)
+    ∙ ap (pasted s.out.now s.at) (sym (all-next numbers l.i (omega arith)))

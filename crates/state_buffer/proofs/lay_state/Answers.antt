@@ -14,8 +14,8 @@ returns c =
     let whole_numbers : length c.args.state.numbers ≡ 832 = search rules in
     let whole-bytes : length c.args.state.bytes ≡ 32768 = search rules in
     let st = c.args.state in
-    c.lay_bytes-2.ensures
+    c.lay-2.ensures
     ∙ ap (λ l. pasted l 3352 st.bytes) (c.lay_numbers.ensures
-    ∙ ap (λ l. pasted l 24 (bytes_of_all st.numbers)) (c.lay_bytes.ensures
+    ∙ ap (λ l. pasted l 24 (bytes_of_all st.numbers)) (c.lay.ensures
     ∙ ap (λ l. pasted l 8 st.modes) (c.lay_number-2.ensures ∙ ap (λ l. pasted l 4 (bytes32 st.time)) c.lay_number.ensures)))
     ∙ state-laid c.args.out.now st c.requires whole-modes whole_numbers whole-bytes

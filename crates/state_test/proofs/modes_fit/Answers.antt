@@ -1,14 +1,11 @@
-use Prim.Native.Nat.{◌-◌}
-use mathlib.Core.Path.{◌≡◌, sym, ◌∙◌, ap}
-use native.Mathlib.Omega.{arith}
-use lib.Dec.{leb}
-use lib.ListN.{length, get_or}
-use Rattle.model.specs.Words.{all}
-use Rattle.state_test.proofs.Judged.{all_placed}
+-- `state_test::modes_fit` meets its contract: each of the modes passes. Assumes nothing.
+use Rattle.std.proofs.Common.{◌∙◌, rules, leb}
+use Rattle.std.proofs.lemmas.Iterator.{YieldsList-from_slice}
+use Rattle.std.proofs.lemmas.Iterator.Search.{all_from_yields_List}
+use Rattle.state_test.proofs.Judged.{list-all}
 use Rattle.state_test.proofs.modes_fit.Goals as goal
 
-pub loop-p-init : goal.loop-p-init
-loop-p-init c =
+pub returns : goal.returns
+returns c =
     let modes = c.args.modes.now in
-    let whole : length modes - 0 ≡ length modes = omega arith in
-    (omega arith, all_placed (λ m. leb m 3) 0 modes ∙ ap (λ n. all (λ q. leb (get_or modes q 0) 3) n 0) (sym whole))
+    all_from_yields_List (λ m. leb m 3) _ _ _ c.all.ensures.ran (YieldsList-from_slice modes cc) (λ x b q k. search rules) ∙ list-all (λ m. leb m 3) modes

@@ -1,17 +1,7 @@
--- `tested_run::is_accepted` meets its contract: by the case of the verdict. Assumes nothing.
-use mathlib.Core.Path.{sym, ◌∙◌, ap}
-use Rattle.model.specs.Load.{is_accepted, accepts}
-use Rattle.loader.specs.Shown.{verdict_of}
+-- `tested_run::is_accepted` meets its contract: by the verdict. Assumes nothing.
+use mathlib.Core.Path.{◌∙◌}
+use Rattle.loader.proofs.Accepts.{is_ok-accepts}
 use Rattle.tested_run.proofs.is_accepted.Goals as goal
 
-pub returns-in-Accepted : goal.returns-in-Accepted
-unfolding accepts
-returns-in-Accepted c =
-    let verdict = sym c.judge-verdict.ensures ∙ ap verdict_of c.in-Accepted.is in
-    sym (ap is_accepted verdict)
-
-pub returns-in-Refused : goal.returns-in-Refused
-unfolding accepts
-returns-in-Refused c =
-    let verdict = sym c.judge-verdict.ensures ∙ ap verdict_of c.in-Refused.is in
-    sym (ap is_accepted verdict)
+pub returns : goal.returns
+returns c = c.is_ok.ensures.value ∙ is_ok-accepts c.args.t.now c.judge.result c.judge.ensures

@@ -1,14 +1,17 @@
-use native.Mathlib.Omega.{arith}
-use Rattle.create_and_find.proofs.LookUp.{whole, passed}
+-- `create_and_find::names::look_up` meets its contract: the first that passes. Assumes nothing.
+use Prim.Native.Nat.{ℕ}
+use mathlib.Core.Path.{◌≡◌}
+use mathlib.Core.Bool.{Bool, true, false}
+use borrow.Author.Rules.{rules}
+use Rattle.std.proofs.lemmas.Iterator.{first_from_Range}
+use Rattle.model.specs.Services.{is_named, look_up}
+use Rattle.create_and_find.proofs.LookUp.{found}
 use Rattle.create_and_find.proofs.names.look_up.Goals as goal
 
-pub loop-k-init : goal.loop-k-init
-loop-k-init c =
+pub returns : goal.returns
+unfolding look_up
+returns c =
     let a = c.args in
-    (omega arith, whole a.t.now a.p a.mode a.event.now)
-
-pub loop-k-preserved : goal.loop-k-preserved
-loop-k-preserved c =
-    let a = c.args in
-    let l = c.loop-k in
-    (omega arith, passed a.t.now a.p a.mode a.event.now l.k l.invariant.1 (omega (arith, c.requires.rows.laid.ported, c.loop-k-test.true)) c.is_named.ensures c.if-is_named.false)
+    let p : ℕ → Bool = is_named a.tables.bytes.now a.p a.mode a.event.now in
+    rw (← a.tables.laid.ported)
+    (found p a.tables.ports c.find.result (first_from_Range _ _ _ c.find.result (λ k. p k ≡ true) (λ k. p k ≡ false) c.find.ensures.ran (λ x q k. search rules) (λ x q k. search rules)))

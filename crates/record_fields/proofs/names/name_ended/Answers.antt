@@ -1,20 +1,12 @@
-use mathlib.Core.Path.{sym, ◌∙◌}
-use native.Mathlib.Numerals.{add-one}
-use Rattle.model.proofs.Searches.{all_more, all-stop}
-use Rattle.tables.proofs.Answers.{fails, holds}
-use Rattle.record_fields.proofs.Searched.{follows}
+-- `record_fields::names::name_ended` meets its contract: `all` looks at each byte of the name with the one after it.
+-- Assumes nothing.
+use Rattle.std.proofs.Common.{rules, refl}
+use Rattle.model.specs.Tables.{name_start}
+use Rattle.tables.proofs.Ranges.{all-in_range}
+use Rattle.record_fields.proofs.Searched.{follows, here, next}
 use Rattle.record_fields.proofs.names.name_ended.Goals as goal
 
-pub returns-then-not-may_follow : goal.returns-then-not-may_follow
-returns-then-not-may_follow c =
-    let given = c.args in
-    let at = c.loop-k in
-    let test = fails (rw add-one at c.may_follow.ensures) c.if-not-may_follow.true in
-    sym (at.invariant ∙ all-stop (follows given.t.now given.at) 29 at.k c.loop-k-test.true test)
-
-pub loop-k-preserved : goal.loop-k-preserved
-loop-k-preserved c =
-    let given = c.args in
-    let at = c.loop-k in
-    let test = holds (rw add-one at c.may_follow.ensures) c.if-not-may_follow.false in
-    at.invariant ∙ all_more (follows given.t.now given.at) 29 at.k c.loop-k-test.true test
+pub returns : goal.returns
+returns c =
+    let r = c.args.«record» in
+    all-in_range (follows r.tables.bytes.now (name_start r.number)) 0 29 _ _ _ refl c.all.ensures.ran (λ y b q k. rw (here r.number y, next r.number y) (search rules))

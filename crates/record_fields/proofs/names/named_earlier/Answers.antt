@@ -1,11 +1,11 @@
-use mathlib.Core.Path.{sym, ◌∙◌}
+-- `record_fields::names::named_earlier` meets its contract: `any` looks at each earlier port.
+-- Assumes nothing.
+use Rattle.std.proofs.Common.{rules, refl}
 use Rattle.model.specs.Load.{same_owner_and_name}
-use Rattle.model.proofs.Searches.{any-more}
+use Rattle.tables.proofs.Ranges.{any-in_range}
 use Rattle.record_fields.proofs.names.named_earlier.Goals as goal
 
-pub loop-q-preserved : goal.loop-q-preserved
-loop-q-preserved c =
-    let given = c.args in
-    let at = c.loop-q in
-    let test = sym c.same_owner_and_name.ensures ∙ c.if-same_owner_and_name.false in
-    at.invariant ∙ any-more (same_owner_and_name given.t.now given.r) given.r at.q c.loop-q-test.true test
+pub returns : goal.returns
+returns c =
+    let r = c.args.«record» in
+    rw (← r.tables.laid.windowed) (any-in_range (same_owner_and_name r.tables.bytes.now r.number) r.tables.windows r.number _ _ _ refl c.any.ensures.ran (λ y b q k. search rules))

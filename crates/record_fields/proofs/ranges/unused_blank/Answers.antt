@@ -1,12 +1,12 @@
-use mathlib.Core.Path.{sym, ◌∙◌}
-use borrow.Author.Tests.{eq-eqb}
-use Rattle.model.proofs.Searches.{all_more}
-use Rattle.record_fields.proofs.Searched.{is_unused}
+-- `record_fields::ranges::unused_blank` meets its contract: `all` looks at each end past the count.
+-- Assumes nothing.
+use Rattle.std.proofs.Common.{◌∙◌, rules, refl, sym, ◌+◌}
+use Rattle.tables.proofs.Ranges.{all-in_range}
+use Rattle.record_fields.proofs.Searched.{is_unused, unused-whole}
 use Rattle.record_fields.proofs.ranges.unused_blank.Goals as goal
 
-pub loop-j-preserved : goal.loop-j-preserved
-loop-j-preserved c =
-    let given = c.args in
-    let at = c.loop-j in
-    let test = eq-eqb _ 0 (sym c.id_at.ensures ∙ c.if-id_at-ne0.false) in
-    at.invariant ∙ all_more (is_unused given.t.now given.r) 9 at.j c.loop-j-test.true test
+pub returns : goal.returns
+returns c =
+    let r = c.args.«record» in
+    let looked = all-in_range (is_unused r.tables.bytes.now r.number) (c.from.result + 1) 9 _ _ _ refl c.all.ensures.ran (λ y b q k. search rules) in
+    (rw c.from.ensures at looked) ∙ sym (unused-whole r.tables.bytes.now r.number c.args.count)

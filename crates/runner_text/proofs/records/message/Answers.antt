@@ -1,11 +1,9 @@
 -- `runner_text::records::message` meets its contract: what the reader hands out of the record, or a dash. Assumes nothing.
-use Prim.Native.Nat.{◌+◌, ◌*◌, ◌-◌}
-use mathlib.Core.Path.{◌≡◌, sym, ap, ◌∙◌}
-use lib.ListN.{take, drop}
+use mathlib.Core.Path.{sym, ap, ◌∙◌}
+use native.Mathlib.Omega.{arith}
 use Rattle.runner_text.specs.Text.{hex, shows_message, record_at}
 use Rattle.runner_text.proofs.Laws
 use Rattle.runner_text.proofs.Handed
-use native.Mathlib.Omega.{arith}
 use Rattle.runner_text.proofs.records.message.Goals as goal
 
 pub hex-requires : goal.hex-requires
@@ -13,20 +11,16 @@ hex-requires c = omega (arith, c.requires.3, Handed.message-short _ _ _ c.read.e
 
 pub returns-then-shows_message : goal.returns-then-shows_message
 returns-then-shows_message c =
-    let tested : let a = c.args in c.shows_message.result ≡ shows_message a.event.now (record_at a.answers.now a.i) = let a = c.args in
-    let size : 80 * a.i + 80 - 80 * a.i ≡ 80 = omega arith in
-    c.shows_message.ensures ∙ ap (λ k. shows_message a.event.now (take k (drop (80 * a.i) a.answers.now))) size in
     let a = c.args in
     let b = a.answers.now in
-    Laws.wrote_as (omega (arith, Handed.message-short _ _ _ c.read.ensures))
+    let tested = c.shows_message.ensures ∙ ap (shows_message a.event.now) c.record_of.ensures.value in
+    Laws.adds_as (omega (arith, Handed.message-short _ _ _ c.read.ensures))
     (ap hex (c.read.ensures ∙ Handed.handed-record b a.i c.requires.1 c.requires.2)
     ∙ sym (Handed.message-shown a.event.now (record_at b a.i) (sym tested ∙ c.if-shows_message.true)))
     c.hex.ensures
 
-pub returns : goal.returns
-returns c =
-    let tested : let a = c.args in c.shows_message.result ≡ shows_message a.event.now (record_at a.answers.now a.i) = let a = c.args in
-    let size : 80 * a.i + 80 - 80 * a.i ≡ 80 = omega arith in
-    c.shows_message.ensures ∙ ap (λ k. shows_message a.event.now (take k (drop (80 * a.i) a.answers.now))) size in
+pub returns-else-shows_message : goal.returns-else-shows_message
+returns-else-shows_message c =
     let a = c.args in
-    Laws.wrote_as (omega arith) (sym (Handed.message-not a.event.now (record_at a.answers.now a.i) (sym tested ∙ c.if-shows_message.false))) c.letter.ensures
+    let tested = c.shows_message.ensures ∙ ap (shows_message a.event.now) c.record_of.ensures.value in
+    Laws.adds_as (omega arith) (sym (Handed.message-not a.event.now (record_at a.answers.now a.i) (sym tested ∙ c.if-shows_message.false))) c.text.ensures

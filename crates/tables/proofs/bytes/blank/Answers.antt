@@ -1,12 +1,17 @@
-use mathlib.Core.Path.{◌∙◌}
-use native.Mathlib.Omega.{arith}
-use borrow.Author.Tests.{eq-eqb}
-use Rattle.model.proofs.Searches.{all_more}
-use Rattle.tables.proofs.Searched.{is_zero}
+-- `tables::bytes::blank` meets its contract: each byte of the stretch is zero.
+-- Assumes nothing.
+use Rattle.std.proofs.Common.{ℕ, ◌+◌, ◌-◌, ◌∙◌, Bool, rules, take, drop, eqb}
+use Rattle.std.proofs.lemmas.Iterator.{YieldsList-from_slice}
+use Rattle.std.proofs.lemmas.Iterator.Search.{all_from_yields_List}
+use Rattle.tables.proofs.Searched.{each-passes}
 use Rattle.tables.proofs.bytes.blank.Goals as goal
 
-pub loop-k-preserved : goal.loop-k-preserved
-loop-k-preserved c =
-    let t = c.args.t.now in
-    let at = c.loop-k in
-    (omega arith, at.invariant.1 ∙ all_more (is_zero t) _ at.k c.loop-k-test.true (eq-eqb _ _ c.if-t-k-ne0.false))
+abbrev is_zero : ℕ → Bool
+is_zero b = eqb b 0
+
+pub returns : goal.returns
+returns c =
+    let x = c.args in
+    let stretch = take (x.at + x.n - x.at) (drop x.at x.t.now) in
+    all_from_yields_List is_zero _ _ _ c.all.ensures.ran (YieldsList-from_slice stretch cc) (λ y b q k. search rules)
+    ∙ each-passes is_zero x.t.now x.n x.at c.requires

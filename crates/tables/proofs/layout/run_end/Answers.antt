@@ -1,19 +1,13 @@
-use mathlib.Core.Path.{sym, ◌∙◌}
-use Rattle.model.proofs.Searches.{first_more, first-stop}
+-- `tables::layout::run_end` meets its contract: `find` gives the first record of another kind.
+-- Assumes nothing.
+use Rattle.std.proofs.Common.{◌∙◌, rules, arith, refl}
 use Rattle.tables.specs.Runs.{other_kind}
-use Rattle.tables.proofs.Places.{is-kind, is-other}
+use Rattle.tables.proofs.Ranges.{first-in_range}
 use Rattle.tables.proofs.layout.run_end.Goals as goal
 
-pub returns-then-kind-wanted : goal.returns-then-kind-wanted
-returns-then-kind-wanted c =
-    let given = c.args in
-    let at = c.loop-r in
-    let test = is-other given.t.now given.wanted at.r _ c.kind.ensures c.if-kind-wanted.true in
-    sym (at.invariant.1 ∙ first-stop (other_kind given.wanted given.t.now) _ at.r c.loop-r-test.true test)
-
-pub loop-r-preserved : goal.loop-r-preserved
-loop-r-preserved c =
-    let given = c.args in
-    let at = c.loop-r in
-    let test = is-kind given.t.now given.wanted at.r _ c.kind.ensures c.if-kind-wanted.false in
-    (at.invariant.0, at.invariant.1 ∙ first_more (other_kind given.wanted given.t.now) _ at.r c.loop-r-test.true test)
+pub returns : goal.returns
+returns c =
+    let x = c.args in
+    let e = c.records-end.ensures in
+    let found = first-in_range (other_kind x.wanted x.t.now) x.start c.records-end.result _ _ _ refl (omega (arith, c.requires, e)) c.find.ensures.ran (λ y b q k. search rules) in
+    c.unwrap_or.ensures ∙ rw (← e) found

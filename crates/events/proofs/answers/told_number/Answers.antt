@@ -1,7 +1,0 @@
--- `events::answers::told_number` meets its contract: it is the empty answer with its field. Assumes nothing.
-use Rattle.events.specs.Shown.{refused_as, told_as}
-use Rattle.events.proofs.answers.told_number.Goals as goal
-
-pub returns : goal.returns
-unfolding refused_as told_as
-returns c = rw c.refusal-a.ensures
