@@ -31,7 +31,7 @@ fn turn_at(
     turned.clock
 }
 
-// Every event of the list, in order. Records go by their number: once a borrow of `chunks_exact_mut` is over, a proof knows no more than the answers' length.
+// Every event of the list, in order.
 pub fn run_events(
     tables: Tables,
     clock: Clock,

@@ -13,8 +13,7 @@ use events::{Answer, Asked, Call, Clock, NOBODY, Refusal, SCHEDULER};
 use ports::Ports;
 use tables::{MOVER, Tables};
 
-// An event's answer, and the clock after it: both stand there for each event, neither tells of the other. Clock, modes and ports go side by side: the clock is handed
-// back, and the other two are lent each to those services that need it, so that one struct of all three would be taken apart at once.
+// An event's answer, and the clock after it: both stand there for each event, neither tells of the other.
 #[derive(Clone, Copy)]
 pub struct Turned {
     pub answer: Answer,

@@ -10,8 +10,7 @@ pub const MESSAGE_SIZE: usize = 64;
 
 const MESSAGE_AT: usize = 16;
 
-// An answer as it is laid out, a refusal too. No Result: what may not change is that each service promises the answer itself, with its doer and its zeros
-// (`Serves`, `Does`, `Moved`). The message is an array beside its length, since the kernel has no heap, and its zeros are answered.
+// An answer as it is laid out, a refusal too. The message is an array beside its length, since the kernel has no heap, and its zeros are answered.
 #[derive(Clone, Copy)]
 pub struct Answer {
     pub code: u8,

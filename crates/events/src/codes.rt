@@ -214,8 +214,6 @@ pub fn directed(code: Code, direction: u8) -> bool
 }
 
 // What an event asks for. Past this a step reads no byte of the event but name and message.
-// An event is a part of a list, and an answer's place one of another: slices whose length is asked for, since to make arrays of them takes a
-// `try_into` and an `unwrap` at each place.
 pub fn decode(event: &[u8]) -> Asked
     requires { length event.now ≡ 80 }
     ensures asked { asked_of result ≡ decode event.now }

@@ -1,5 +1,4 @@
 // 14, TRANSMIT: the oldest message leaves a channel's source, and each destination that is created gets it.
-// A channel goes by its number, which an event names and the doer tells, beside the tables: no plainer as a record, of which the number would be asked.
 // "Otherwise it is lost": nothing here waits for a destination, and no answer tells what became of a message.
 #![tactic(auto)]
 

@@ -29,8 +29,7 @@ pub const COUNT: usize = 4;
 // the first of the lengths in the eight slots
 pub const LENGTHS: usize = 5;
 
-// The ports of a state, lent as one. Numbers and bytes of each port stand in two flat arrays: what may not change is the layout of a state
-// (`bytes_of`), which a host keeps. A port's number below 64 is asked for where it is used: a type for it would be made at each look-up, no plainer.
+// The ports of a state, lent as one. Numbers and bytes of each port stand in two flat arrays, as in a host's buffer. A port's number below 64 is asked for where it is used: a type for it would be made at each look-up, no plainer.
 #[derive(Clone, Copy)]
 pub struct Ports {
     // thirteen numbers for each of 64 ports

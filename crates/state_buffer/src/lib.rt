@@ -33,7 +33,7 @@ fn read_numbers(b: &[u8], at: usize, out: &mut [u32])
     }
 }
 
-// Each part read by itself: a state of zeros that is then filled is moved whole, which takes a host 100 KB of stack more.
+// Each part read by itself: a state of zeros that is then filled took a run 36 KB of stack more, the size of a state.
 pub fn state_of(b: &[u8]) -> State
     requires { length b.now ≡ state_size }
     ensures { result ≡ state_of b.now }

@@ -10,8 +10,8 @@ use ports::{ALL_BYTES, ALL_NUMBERS};
 // How many partitions there are.
 pub const PARTITIONS: usize = 16;
 
-// 01, "State and clock". The fields stay flat numbers and bytes: what may not change is the layout that C hosts are given (`bytes_of`,
-// include/mueanphrai.h), which has them in this order. Test 29 looks at every number of which a range is said here; of port rows only at those of the tables' ports.
+// 01, "State and clock". The fields are flat numbers and bytes in the order of a host's buffer (`bytes_of`, include/mueanphrai.h).
+// Test 29 looks at every number of which a range is said here; of port rows only at those of the tables' ports.
 #[derive(Clone, Copy)]
 pub struct State {
     // the current window, 0 up to the tables' number of windows

@@ -63,8 +63,7 @@ pub fn channel_count(t: &[u8]) -> usize
     records(t) - ports_end(t)
 }
 
-// The partition of window w, or 32 for a mover window. Over bytes and a number, as is `window_length`: a step reads one
-// field of the clock's window, and would be no plainer by a record of it.
+// The partition of window w, or 32 for a mover window.
 pub fn window_partition(t: &[u8], w: usize) -> u8
     requires { w < records t.now }
     ensures { result ≡ window_partition t.now w }
