@@ -2,7 +2,7 @@
 -- of the count.
 -- Assumes nothing.
 use Rattle.std.specs.Prelude.{if◌then◌else◌, None, Some}
-use Prim.Native.Nat.{ℕ, ◌-◌, ◌≤◌, ◌<◌}
+use Prim.Native.Nat.{ℕ, ◌+◌, ◌-◌, ◌≤◌, ◌<◌}
 use mathlib.Core.Path.{◌≡◌, refl, ◌∙◌}
 use mathlib.Core.Bool.{Bool, true, false, ◌&&◌, ◌||◌, not}
 use native.Mathlib.Nat.{le_refl}
@@ -26,6 +26,11 @@ pub record Within (low high x : ℕ) : Type 0 where
 
 pub within : (low high x : ℕ) → between low high x ≡ true → Within low high x
 within low high x e = record { least = leb-true low x (both_left _ _ e); most = leb-true x high (both_right (leb low x) _ e) }
+
+-- the record of an id that has a row, by where the ports and the channels start
+module _ (t : Tables) {port channel : ℕ} (ported : port ≡ windows t) (channeled : channel ≡ ports_end t) where
+  pub there : (id : ℕ) {q : ℕ} → between 1 (channel - port) id ≡ true → q ≡ port + (id - 1) → q < records t
+  there id rowed stands = omega (arith, within 1 (channel - port) id rowed, ports-within t)
 
 -- an id has a row, in record q
 pub record Rowed (t : Tables) (id q : ℕ) : Type 0 where

@@ -1,7 +1,7 @@
 -- The name look-up: a row of another mode, and the search over all.
 -- Assumes nothing.
 use Rattle.std.specs.Prelude.{MatchOption, Option, Some, None}
-use Prim.Native.Nat.{ℕ, zero, suc, ◌+◌, ◌≤◌, ◌<◌}
+use Prim.Native.Nat.{ℕ, zero, suc, ◌+◌, ◌-◌, ◌≤◌, ◌<◌}
 use mathlib.Core.Path.{◌≡◌, sym, ◌∙◌, ap}
 use mathlib.Core.Bool.{Bool, true, false}
 use mathlib.Core.Logic.{⊎_elim}
@@ -10,9 +10,10 @@ use native.Mathlib.Omega.{arith}
 use lib.Dec.{eqb}
 use borrow.Author.Tests.{eq-eqb}
 use Rattle.model.specs.Words.{first}
-use Rattle.model.specs.Tables.{Tables, row}
+use Rattle.model.specs.Tables.{Tables, ports, row}
 use Rattle.model.specs.Events.{Event}
-use Rattle.model.specs.Services.{is_named}
+use Rattle.model.specs.Services.{is_named, look_up}
+use Rattle.model.proofs.Searches.{first-stop}
 
 -- the caller's row, but of another mode
 pub not-mode : (t : Tables) (p mode : ℕ) (e : Event) (k : ℕ) → (row t k).owner ≡ p → eqb (row t k).mode mode ≡ false → is_named t p mode e k ≡ false
@@ -38,3 +39,8 @@ pub found : (p : ℕ → Bool) (n : ℕ) (r : Option ℕ)
     → MatchOption r (first p n 0 ≡ n) (λ i. (i < n) × (i ≡ first p n 0))
 found p n None h = first-none p n 0 (λ j a b. h j a (omega arith)) ∙ zero-add n
 found p n (Some i) h = (h.1, sym (first-at p n 0 i (omega arith) (omega (arith, h.1)) h.2 h.3))
+
+-- where the model's search stands at row k, and that row passes, it is the one looked up
+pub found-row : (t : Tables) (p mode : ℕ) (e : Event) (k : ℕ) → look_up t p mode e ≡ first (is_named t p mode e) (ports t - k) k
+    → {x : Bool} → k < ports t → x ≡ is_named t p mode e k → x ≡ true → k ≡ look_up t p mode e
+found-row t p mode e k rest l tested is = sym (rest ∙ first-stop (is_named t p mode e) (ports t) k l (sym tested ∙ is))

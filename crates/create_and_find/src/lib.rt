@@ -22,7 +22,8 @@ use tables::{PortRow, Tables, Transfer};
 fn period(row: PortRow) -> u32
     ensures { result ≡ period_of (row_of row) }
 {
-    match row.transfer {
+    let transfer = row.transfer;
+    match transfer {
         Transfer::Sampling(refresh) => refresh,
         Transfer::Queuing(depth) => depth,
     }
@@ -37,35 +38,49 @@ fn like_row(row: PortRow, call: Call) -> bool
 }
 
 // Already created, 1; unlike the row, 4; partition in NORMAL, 5; else created, answer id.
-fn make(ports: &mut Ports, k: usize, row: PortRow, mode: u8, call: Call, doer: u8) -> Answer
-    requires { k < 64 }
-    ensures served { Serves ports.old.numbers ports.old.bytes ports.new.numbers ports.new.bytes k doer result (made (k + 1) mode (row_of row) (call_of call.entry) (port_at ports.old.numbers ports.old.bytes k)) }
-    ensures kept { ports.new.bytes ≡ ports.old.bytes }
+fn make(
+    numbers: &mut [u32],
+    bytes: &[u8],
+    k: usize,
+    row: PortRow,
+    mode: u8,
+    call: Call,
+    doer: u8,
+) -> Answer
+    requires { (length numbers.old ≡ 832) × (k < 64) }
+    ensures { Serves numbers.old bytes.now numbers.new bytes.now k doer result (made (k + 1) mode (row_of row) (call_of call.entry) (port_at numbers.old bytes.now k)) }
 {
-    if ports.number(k, CREATED) == 1 {
-        return events::refusal(Refusal::NoAction, doer);
+    if ports::number(numbers, k, CREATED) == 1 {
+        return events::refused(Refusal::NoAction, doer);
     }
     if !like_row(row, call) {
-        return events::refusal(Refusal::InvalidConfig, doer);
+        return events::refused(Refusal::InvalidConfig, doer);
     }
     if mode == NORMAL {
-        return events::refusal(Refusal::InvalidMode, doer);
+        return events::refused(Refusal::InvalidMode, doer);
     }
-    ports.set_number(k, CREATED, 1);
+    ports::set_number(numbers, k, CREATED, 1);
     events::told_id(doer, (k + 1) as u32)
 }
 
 // No row of that name, owner and mode, 4.
-pub fn create(tables: Tables, modes: &[u8], ports: &mut Ports, p: u8, call: Call) -> Answer
-    requires held { Held tables.bytes.now ports.old.numbers ports.old.bytes }
+pub fn create(
+    tables: Tables,
+    modes: &[u8],
+    numbers: &mut [u32],
+    bytes: &[u8],
+    p: u8,
+    call: Call,
+) -> Answer
+    requires held { Held tables.bytes.now numbers.old bytes.now }
+    requires numbers_len { length numbers.old ≡ 832 }
     requires p_in_bounds { p < length modes.now }
-    ensures called { Calls tables.entry.bytes.now (λ s. create tables.entry.bytes.now s p call.entry.event.now (call_of call.entry)) p result modes.now ports.old.numbers ports.old.bytes modes.now ports.new.numbers ports.new.bytes }
-    ensures kept { ports.new.bytes ≡ ports.old.bytes }
+    ensures { Calls tables.entry.bytes.now (λ s. create tables.entry.bytes.now s p call.entry.event.now (call_of call.entry)) p result modes.now numbers.old bytes.now modes.now numbers.new bytes.now }
 {
     let Some(k) = look_up(tables, p, events::need(call.code).mode, call.event) else {
-        return events::refusal(Refusal::InvalidConfig, p);
+        return events::refused(Refusal::InvalidConfig, p);
     };
-    make(ports, k, tables.row(k), modes[p as usize], call, p)
+    make(numbers, bytes, k, tables.row(k), modes[p as usize], call, p)
 }
 
 // No created own port of that name, 4; else id.
@@ -74,10 +89,10 @@ pub fn get_id(tables: Tables, ports: &Ports, p: u8, call: Call) -> Answer
     ensures { (modes : List ℕ) → Calls tables.entry.bytes.now (λ s. get_id tables.entry.bytes.now s p call.entry.event.now (call_of call.entry)) p result modes ports.now.numbers ports.now.bytes modes ports.now.numbers ports.now.bytes }
 {
     let Some(k) = look_up(tables, p, events::need(call.code).mode, call.event) else {
-        return events::refusal(Refusal::InvalidConfig, p);
+        return events::refused(Refusal::InvalidConfig, p);
     };
     if ports.number(k, CREATED) != 1 {
-        return events::refusal(Refusal::InvalidConfig, p);
+        return events::refused(Refusal::InvalidConfig, p);
     }
     events::told_id(p, (k + 1) as u32)
 }

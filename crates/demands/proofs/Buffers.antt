@@ -30,7 +30,7 @@ use Rattle.state_buffer.proofs.Round.{Typed, state-back}
 use Rattle.host.specs.Exports.{is_sized, number_in, load_code, buffer_sound, buffer_or, HostLoad, HostList, HostRun, HostStep}
 use Rattle.host.proofs.Calls.{sound-as}
 use Rattle.demands.specs.Calls.{Called, by_run, by_step, HostCalled, by_host_run, by_host_step, HostGiven, by_load, by_call}
-use Rattle.demands.specs.Told.{told}
+use Rattle.demands.specs.Told.{told, MeetsAs}
 use Rattle.demands.proofs.Told.{told-refusal, told-kept, told-meets}
 use Rattle.demands.proofs.Steps.{not-refused}
 use Rattle.demands.proofs.Widths.{load_typed, after-typed, given-typed}
@@ -126,11 +126,23 @@ bytes-sit b whole small = record { sized = eq-eqb (length b) state_size whole; t
 
 -- a run or a step of the exported functions is the kernel's, on the state in the buffer, and leaves in the buffer the state that the kernel's leaves
 module _ (t b : List ℕ) (sits : Sits b) (events room : List ℕ) (r : ℕ) (b' answers : List ℕ) where
-  pub host-run-is-run : HostRun t b events room r b' answers → RunMeets t (state_of b) events room (told r (state_of b')) answers
-  host-run-is-run = list-is-kernel t b sits.typed events sits.sized (eqb (length events % event_size) 0) room
+  pub host-run-is-run : HostRun t b events room r b' answers → MeetsAs (λ x. RunMeets t (state_of b) events room x answers) (state_of b) r (state_of b')
+  host-run-is-run h =
+      let whole = eqb (length events % event_size) 0 in
+      record {
+        meets = list-is-kernel t b sits.typed events sits.sized whole room h;
+        number = list-told t b sits.typed events sits.sized whole room h;
+        state = list-kept t b sits.typed events sits.sized whole room h;
+      }
 
-  pub host-step-is-step : HostStep t b events room r b' answers → StepMeets t (state_of b) events room (told r (state_of b')) answers
-  host-step-is-step = list-is-kernel t b sits.typed events sits.sized (eqb (length events) event_size) room
+  pub host-step-is-step : HostStep t b events room r b' answers → MeetsAs (λ x. StepMeets t (state_of b) events room x answers) (state_of b) r (state_of b')
+  host-step-is-step h =
+      let whole = eqb (length events) event_size in
+      record {
+        meets = list-is-kernel t b sits.typed events sits.sized whole room h;
+        number = list-told t b sits.typed events sits.sized whole room h;
+        state = list-kept t b sits.typed events sits.sized whole room h;
+      }
 
   -- the refusal and the state of that outcome are those of the exported call
   pub host-run-told : HostRun t b events room r b' answers → refusal_of (told r (state_of b')) ≡ r
@@ -211,9 +223,9 @@ load-keeps t b r b' h z =
 
 call-keeps : {t b events room b' answers : List ℕ} → Keeps t b → HostCalled t b events room b' answers → Keeps t b'
 call-keeps {t} {b} {events} {room} {b'} {answers} k (by_host_run h) =
-    record { given = Kernel.by_run events room answers k.given (host-run-is-run t b k.sits events room 0 b' answers h); sits = host-run-sits t b k.sits events room 0 b' answers h }
+    record { given = Kernel.by_run events room answers k.given (host-run-is-run t b k.sits events room 0 b' answers h).meets; sits = host-run-sits t b k.sits events room 0 b' answers h }
 call-keeps {t} {b} {events} {room} {b'} {answers} k (by_host_step h) =
-    record { given = Kernel.by_step events room answers k.given (host-step-is-step t b k.sits events room 0 b' answers h); sits = host-step-sits t b k.sits events room 0 b' answers h }
+    record { given = Kernel.by_step events room answers k.given (host-step-is-step t b k.sits events room 0 b' answers h).meets; sits = host-step-sits t b k.sits events room 0 b' answers h }
 
 pub given-keeps : (t b : List ℕ) → HostGiven t b → Keeps t b
 given-keeps t b' (by_load {b = b} h) = load-keeps t b _ b' h refl
@@ -221,5 +233,5 @@ given-keeps t b' (by_call {b = b} g c) = call-keeps (given-keeps t b g) c
 
 -- a call that is not refused is the kernel's call, from the state in the buffer
 pub host-call-is-call : (t b : List ℕ) → Sits b → (events room b' answers : List ℕ) → HostCalled t b events room b' answers → Called t (state_of b) events room (state_of b') answers
-host-call-is-call t b sits events room b' answers (by_host_run h) = by_run (host-run-is-run t b sits events room 0 b' answers h)
-host-call-is-call t b sits events room b' answers (by_host_step h) = by_step (host-step-is-step t b sits events room 0 b' answers h)
+host-call-is-call t b sits events room b' answers (by_host_run h) = by_run (host-run-is-run t b sits events room 0 b' answers h).meets
+host-call-is-call t b sits events room b' answers (by_host_step h) = by_step (host-step-is-step t b sits events room 0 b' answers h).meets

@@ -55,7 +55,7 @@ pub record HostIsModel (t : Tables) (m : Model.Ran) (r : ℕ) (b' answers : List
 module _ (t b : List ℕ) (sits : Sits b) (slots : indexed t (state_of b).numbers ≡ true) (events room : List ℕ) (r : ℕ) (b' answers : List ℕ) where
   pub host-run-is-model : HostRun t b events room r b' answers → HostIsModel t (run t (state_in t b) events room) r b' answers
   host-run-is-model h =
-      let m = run-is-model t (state_of b) slots events room (told r (state_of b')) answers (host-run-is-run t b sits events room r b' answers h) in
+      let m = run-is-model t (state_of b) slots events room (told r (state_of b')) answers (host-run-is-run t b sits events room r b' answers h).meets in
       record {
         refusal = sym (host-run-told t b sits events room r b' answers h) ∙ m.refusal;
         state = ap (shown_state t) (sym (host-run-kept t b sits events room r b' answers h)) ∙ m.state;
@@ -64,7 +64,7 @@ module _ (t b : List ℕ) (sits : Sits b) (slots : indexed t (state_of b).number
 
   pub host-step-is-model : HostStep t b events room r b' answers → HostIsModel t (step t (state_in t b) events room) r b' answers
   host-step-is-model h =
-      let m = step-is-model t (state_of b) slots events room (told r (state_of b')) answers (host-step-is-step t b sits events room r b' answers h) in
+      let m = step-is-model t (state_of b) slots events room (told r (state_of b')) answers (host-step-is-step t b sits events room r b' answers h).meets in
       record {
         refusal = sym (host-step-told t b sits events room r b' answers h) ∙ m.refusal;
         state = ap (shown_state t) (sym (host-step-kept t b sits events room r b' answers h)) ∙ m.state;
@@ -82,14 +82,14 @@ pub host-run-refused :
     → (byte (record_at answers i) 0 ≡ 0 → ⊥)  -- that is not answered 0:
     → DidNothing t (before t (state_of b) events i) (event_at events i) (before t (state_of b) events (suc i)) (record_at answers i)
 host-run-refused t b sits events room b' answers h =
-    run-refused t (state_of b) events room (state_of b') answers (host-run-is-run t b sits events room 0 b' answers h)
+    run-refused t (state_of b) events room (state_of b') answers (host-run-is-run t b sits events room 0 b' answers h).meets
 
 pub host-step-refused :
     (t b : List ℕ) → Sits b → (event room b' answers : List ℕ) → HostStep t b event room 0 b' answers  -- a step that is not refused,
     → (byte (take 80 answers) 0 ≡ 0 → ⊥)  -- whose event is not answered 0:
     → DidNothing t (state_in t b) event (state_in t b') (take 80 answers)
 host-step-refused t b sits event room b' answers h =
-    step-refused t (state_of b) event room (state_of b') answers (host-step-is-step t b sits event room 0 b' answers h)
+    step-refused t (state_of b) event room (state_of b') answers (host-step-is-step t b sits event room 0 b' answers h).meets
 
 -- P1 to P10: what a row asks of an exported step
 pub record HostGives (x : Edge) (r : ℕ) (b' answers : List ℕ) : Type 0 where
@@ -103,7 +103,7 @@ pub host-edges-stepped :
     → (r : ℕ) (b' answers : List ℕ) → HostStep x.tables b x.asked (zeros event_size) r b' answers  -- and any outcome of the exported step:
     → HostGives x r b' answers
 host-edges-stepped x m b sits shows r b' answers h =
-    let gives = edges-stepped x m (state_of b) shows (told r (state_of b')) answers (host-step-is-step x.tables b sits x.asked (zeros event_size) r b' answers h) in
+    let gives = edges-stepped x m (state_of b) shows (told r (state_of b')) answers (host-step-is-step x.tables b sits x.asked (zeros event_size) r b' answers h).meets in
     let is = of-told (eqb r 0) refl gives.left in
     record { refusal = is.0; left = is.1; answered = gives.answered }
   where

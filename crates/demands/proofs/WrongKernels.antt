@@ -8,6 +8,7 @@ use mathlib.Core.Bool.{true}
 use mathlib.Core.List.{List, [], ◌∷◌, ◌++◌, append-nil}
 use native.Mathlib.Nat.{div-div-eq-div-mul}
 use native.Mathlib.Omega.{arith}
+use borrow.Author.Tests.{eqb-true}
 use lib.Dec.{eqb}
 use lib.ListN.{length, get_or, take, drop, replicate, length-append, get_or-append}
 use lib.Seq.{get_or-append-add}
@@ -18,19 +19,20 @@ use Rattle.model.specs.State.{loaded}
 use Rattle.model.specs.State as model
 use Rattle.model.specs.Events.{Event, event_size}
 use Rattle.model.specs.Run.{answers, after_all, events_of, joined, list_fault}
-use Rattle.model.proofs.Tests.{both}
+use Rattle.model.proofs.Tests.{both, by-test}
 use Rattle.model.proofs.Computing.{computing}
 use Rattle.model.proofs.Laid.{window_row, port_row, channel_row, event, answer_row}
 use Rattle.states.specs.Shown.{shown_state, is_sound, at_load}
 use Rattle.states.proofs.Load.{load-shown, load_fits}
 use Rattle.states.specs.declared.State.{State}
 use Rattle.kernel.specs.declared.refusal.ListRefusal.{ListRefusal}
-use Rattle.kernel.specs.Shown.{refusal_of, state_kept}
+use Rattle.kernel.specs.Shown.{refusal_numbered, refusal_of, state_kept}
 use Rattle.kernel.proofs.Laws.{unnumbered}
+use Rattle.demands.specs.Told.{told}
 use Rattle.demands.proofs.Told.{told-meets}
 use Rattle.kernel.specs.Meets.{RunMeets}
 use Rattle.kernel.proofs.GivenStates.{run-leaves, run-answers}
-use Rattle.demands.specs.WrongKernels.{MeetsOn, Meets, right, refuses_everything, with_state, constant_answer, changes_nothing, first_then_prints, other_records, telling, invented_counts, invented_times}
+use Rattle.demands.specs.WrongKernels.{MeetsOn, Meets, right, refuses_everything, refuses_each, with_state, constant_answer, changes_nothing, first_then_prints, other_records, telling, invented_counts, invented_times}
 
 -- from the state at load of accepted tables, a list of whole records with room for its answers is run: what any outcome is
 load-passes : (t : Tables) → accepts t ≡ true → is_sound t at_load ≡ true
@@ -87,8 +89,15 @@ clock-left : (after_all clock_tables (loaded clock_tables) (events_of two_clocks
 unfolding computing
 clock-left = refl
 
-pub refuses-everything : (e : ListRefusal) → MeetsOn (refuses_everything e) clock_tables at_load two_clocks clock_room → ⊥
-refuses-everything e m = unnumbered e (refusal_is clock_tables clock-accepted two_clocks clock_room clock-runs m)
+-- any number but 0 is told as a refusal
+told-refused : (n : ℕ) → (n ≡ 0 → ⊥) → (st : State) → refusal_of (told n st) ≡ 0 → ⊥
+told-refused n some st = by-test (λ (r : Result State ListRefusal). refusal_of r ≡ 0 → ⊥) (eqb n 0) (λ e z. some (eqb-true n 0 e)) (λ e z. unnumbered (refusal_numbered n) z)
+
+pub refuses-everything : (n : ℕ) → (n ≡ 0 → ⊥) → MeetsOn (refuses_everything n) clock_tables at_load two_clocks clock_room → ⊥
+refuses-everything n some m = told-refused n some at_load (refusal_is clock_tables clock-accepted two_clocks clock_room clock-runs m)
+
+pub refuses-each : (e : ListRefusal) → MeetsOn (refuses_each e) clock_tables at_load two_clocks clock_room → ⊥
+refuses-each e m = unnumbered e (refusal_is clock_tables clock-accepted two_clocks clock_room clock-runs m)
 
 -- another state in a result that is no refusal is the state that is left
 kept-with : (before other : State) (r : Result State ListRefusal) → refusal_of (with_state other r) ≡ 0 → state_kept before (with_state other r) ≡ other

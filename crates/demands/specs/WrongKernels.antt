@@ -36,9 +36,13 @@ right t st events room =
     let fault = list_fault (eqb (length events % event_size) 0) events room (is_sound t st) in
     record { result = told fault (state_after fault t st events); answers = answers_after fault t st events room }
 
--- one that refuses everything, with any refusal
-abbrev pub refuses_everything : ListRefusal → Kernel
-refuses_everything e t st events room = record { result = Err e; answers = room }
+-- one that refuses everything, with any number
+abbrev pub refuses_everything : ℕ → Kernel
+refuses_everything n t st events room = record { result = told n st; answers = room }
+
+-- and with any refusal, by its own name
+abbrev pub refuses_each : ListRefusal → Kernel
+refuses_each e t st events room = record { result = Err e; answers = room }
 
 -- the right kernel with other answer records, where a list is run
 abbrev pub other_records : (Tables → model.State → List Event → List (List ℕ)) → Kernel

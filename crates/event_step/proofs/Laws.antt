@@ -1,16 +1,20 @@
 -- Whose turn an event is, case by case, and what a doer's act then gives.
 -- Assumes nothing.
 use Prim.Native.Nat.{ℕ, suc, ◌+◌, ◌≤◌, ◌<◌}
-use mathlib.Core.Path.{◌≡◌, sym, ◌∙◌, ap, ap₂}
+use mathlib.Core.Path.{◌≡◌, refl, sym, ◌∙◌, ap, ap₂, subst}
+use mathlib.Core.Bool.{Bool, true}
 use mathlib.Core.List.{List}
 use mathlib.Core.Logic.{⊎_elim}
+use lib.Dec.{eqb}
 use borrow.Author.Tests.{eq-eqb, ne_eqb, lt-ltb, le-ltb}
+use Rattle.model.specs.Words.{byte}
 use Rattle.model.specs.Tables.{Tables, windows, channels, window_partition, window_length}
 use Rattle.model.specs.State.{State, tick}
 use Rattle.model.specs.State as model
-use Rattle.model.specs.Events.{Event, Call, unknown, clock_step, call, move, decode}
+use Rattle.model.specs.Events.{Event, Call, Asked, unknown, clock_step, call, move, decode, known, need}
 use Rattle.model.specs.Services.{Reply, refuse, service, schedule, transmit}
 use Rattle.model.specs.Step.{turn_in, turn, doer, reply_in, reply, state_of, after}
+use Rattle.model.proofs.Tests.{by-test}
 use Rattle.model.specs.Answers.{told_number}
 use Rattle.model.proofs.Accepted.{Accepted}
 use Rattle.events.specs.declared.answers.Answer.{Answer}
@@ -72,6 +76,24 @@ acts h a =
       answered = a.answered ∙ sym (ap₂ replied h.doing h.replying);
       left = a.left ∙ sym (ap (state_of _) h.replying);
     }
+
+-- a call that was decoded has a known code
+abbrev known_asked : Asked → Bool
+known_asked unknown = true
+known_asked clock_step = true
+known_asked (call f) = known f.code
+known_asked (move c) = true
+
+all_known : (e : Event) → known_asked (decode e) ≡ true
+unfolding decode
+all_known e =
+    by-test (λ x. known_asked x ≡ true) (known (byte e 0))
+    (λ k. by-test (λ x. known_asked x ≡ true) (eqb (need (byte e 0)).caller 0) (λ p. k)
+    (λ p. by-test (λ x. known_asked x ≡ true) (eqb (need (byte e 0)).caller 1) (λ q. refl) (λ q. refl)))
+    (λ k. refl)
+
+pub decoded-known : (e : Event) (f : Call) → decode e ≡ call f → known f.code ≡ true
+decoded-known e f a = subst (λ x. known_asked x ≡ true) a (all_known e)
 
 -- in a window that is no mover's, the partition is one of the sixteen
 pub owner-few : (t : Tables) → Accepted t → (w : ℕ) → w < windows t → (window_partition t w ≡ 32 → ⊥) → window_partition t w < 16

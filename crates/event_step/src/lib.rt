@@ -49,7 +49,7 @@ fn call_turn(
 {
     let owner = tables::window_partition(tables.bytes, clock.window);
     if owner == MOVER {
-        return events::refusal(Refusal::CallInMoverWindow, NOBODY);
+        return events::refused(Refusal::CallInMoverWindow, NOBODY);
     }
     partition_calls::service(tables, modes, ports, owner, clock.time, call)
 }
@@ -61,11 +61,11 @@ fn move_turn(tables: Tables, clock: Clock, ports: &mut Ports, c: u32) -> Answer
     ensures { (modes event : List ℕ) → decode event ≡ asks.move c → Answers tables.entry.bytes.now event clock modes ports.old.numbers ports.old.bytes result clock modes ports.new.numbers ports.new.bytes }
 {
     if tables::window_partition(tables.bytes, clock.window) != MOVER {
-        return events::refusal(Refusal::MoveInPartitionWindow, NOBODY);
+        return events::refused(Refusal::MoveInPartitionWindow, NOBODY);
     }
     let channel = c as usize;
     if tables.channels <= channel {
-        return events::refusal(Refusal::NoChannel, NOBODY);
+        return events::refused(Refusal::NoChannel, NOBODY);
     }
     moves::transmit(tables, ports, clock.time, channel)
 }
@@ -99,7 +99,7 @@ pub fn turn(
             clock,
         },
         Asked::Unknown => Turned {
-            answer: events::refusal(Refusal::UnknownCode, NOBODY),
+            answer: events::refused(Refusal::UnknownCode, NOBODY),
             clock,
         },
     }

@@ -29,7 +29,7 @@ pub struct Answer {
 
 // Code and doer, and zeros, whatever the code.
 #[tactic(auto, unfolding(crate::specs::Shown::refused_as))]
-pub fn bare(code: u8, doer: u8) -> Answer
+pub fn refusal(code: u8, doer: u8) -> Answer
     ensures { result ≡ refused_as code doer }
 {
     Answer {
@@ -45,11 +45,11 @@ pub fn bare(code: u8, doer: u8) -> Answer
     }
 }
 
-// A refusal tells its code and the doer.
-pub fn refusal(code: Refusal, doer: u8) -> Answer
-    ensures { result ≡ refused_as (refusal_number code) doer }
+// What is refused tells why, and the doer.
+pub fn refused(why: Refusal, doer: u8) -> Answer
+    ensures { result ≡ refused_as (refusal_number why) doer }
 {
-    bare(code as u8, doer)
+    refusal(why as u8, doer)
 }
 
 // Code 0 that tells nothing more.
@@ -57,7 +57,7 @@ pub fn refusal(code: Refusal, doer: u8) -> Answer
 pub fn done(doer: u8) -> Answer
     ensures { result ≡ told_as doer nothing_told }
 {
-    bare(NO_ERROR, doer)
+    refusal(NO_ERROR, doer)
 }
 
 #[tactic(auto, unfolding(crate::specs::Shown::told_as))]

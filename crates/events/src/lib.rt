@@ -7,7 +7,7 @@ mod clock;
 mod codes;
 mod return_codes;
 
-pub use answers::{Answer, MESSAGE_SIZE, bare, done, lay_answer, refusal, told_id, told_number};
+pub use answers::{Answer, MESSAGE_SIZE, done, lay_answer, refusal, refused, told_id, told_number};
 pub use calls::{Asked, Call};
 pub use clock::{Clock, age, later};
 pub use codes::{

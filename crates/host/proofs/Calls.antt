@@ -1,6 +1,6 @@
 -- The exported calls by their cases: what the kernel gave, and the size of the buffer.
 -- Assumes nothing.
-use Rattle.std.specs.Prelude.{Result}
+use Rattle.std.specs.Prelude.{if◌then◌else◌, Result}
 use Prim.Native.Nat.{ℕ}
 use mathlib.Core.Path.{◌≡◌, ◌∙◌, ap₂, subst}
 use mathlib.Core.Bool.{Bool, true, false, not}
@@ -14,7 +14,7 @@ use Rattle.model.specs.Load.{accepted, refused, load_of, accepts}
 use Rattle.model.specs.Run.{list_fault}
 use Rattle.model.proofs.Tests.{by-test}
 use Rattle.states.specs.declared.State.{State}
-use Rattle.states.specs.Shown.{at_load}
+use Rattle.states.specs.Shown.{at_load, all_zero}
 use Rattle.kernel.specs.declared.refusal.ListRefusal.{ListRefusal}
 use Rattle.states.specs.Shown.{is_sound}
 use Rattle.kernel.specs.Meets.{answers_after, ListMeets}
@@ -34,6 +34,10 @@ module _ (t b : List ℕ) where
   pub load-done : load_of t ≡ accepted → is_sized b ≡ true → {b' : List ℕ} → b' ≡ bytes_of at_load → HostLoad t b 0 b'
   unfolding load_code accepts
   load-done e s laid = record { code = rw (e, s); state = laid ∙ (rw (e, s)) }
+
+  pub at_load_lem : load_of t ≡ accepted → {x : State} → x ≡ (if accepts t then at_load else all_zero) → x ≡ at_load
+  unfolding accepts
+  at_load_lem e h = h ∙ (rw e)
 
   -- test 29
   pub unsound : is_sized b ≡ false → buffer_sound t b ≡ false

@@ -77,7 +77,7 @@ module _ (t : List ℕ) (st : State) (events buffer : List ℕ) where
       let f = fault-0 events buffer (is_sound t st) h s in
       record { refusal = sym f; state = c.state ∙ (rw (f, ne_eqb (length events) 0 e)); answered = c.answered ∙ (rw f) }
 
--- what the reader hands out: nothing where a test fails
+-- the reader's tests, in their order
 module _ (b : List ℕ) (n : ℕ) where
   pub torn : (length b % 80 ≡ 0 → ⊥) → is_handed b n ≡ false
   unfolding is_handed
@@ -91,6 +91,10 @@ module _ (b : List ℕ) (n : ℕ) where
     pub not-0 : n < length b / 80 → (byte b (80 * n) ≡ 0 → ⊥) → is_handed b n ≡ false
     unfolding is_handed
     not-0 there h = rw (eq-eqb (length b % 80) 0 whole, lt-ltb n (length b / 80) there, ne_eqb (byte b (80 * n)) 0 h)
+
+    pub by_length : n < length b / 80 → byte b (80 * n) ≡ 0 → is_handed b n ≡ leb (word32 b (80 * n + 8)) 64
+    unfolding is_handed
+    by_length there z = rw (eq-eqb (length b % 80) 0 whole, lt-ltb n (length b / 80) there, eq-eqb (byte b (80 * n)) 0 z)
 
   pub none-handed : is_handed b n ≡ false → stretch b n ≡ record { from = 0; size = 0 }
   unfolding stretch

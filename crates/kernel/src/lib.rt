@@ -32,7 +32,7 @@ pub fn in_range(t: &[u8], state: State) -> bool
     tested_run::sound(t, state)
 }
 
-// A list of whole records: 28, 29, then the list. An empty list is run and does nothing.
+// A list of whole records: 28, 29, then the list. An empty list is run and does nothing. The records of each kind are counted once for the call.
 fn carry_out(
     t: &[u8],
     state: State,
@@ -45,13 +45,16 @@ fn carry_out(
     if answers.len() < events.len() {
         return Err(ListRefusal::AnswersShort);
     }
-    if !tested_run::sound(t, state) {
+    if !tested_run::is_accepted(t) {
+        return Err(ListRefusal::StateRefused);
+    }
+    let tables = Tables::of(t);
+    if !tested_run::state_fits(tables, state) {
         return Err(ListRefusal::StateRefused);
     }
     if events.is_empty() {
         return Ok(state);
     }
-    let tables = Tables::of(t);
     Ok(tested_run::run_list(tables, state, events, answers))
 }
 

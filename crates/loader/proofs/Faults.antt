@@ -30,8 +30,12 @@ module _ (t : Tables) where
   pub is-faultless : (r : ℕ) → 0 ≡ fault t r → is_faulty t r ≡ false
   is-faultless r e = ap not (eq-eqb _ 0 (sym e))
 
+  -- of any number but 0, and so of each fault
+  pub numbered-faulty : (r number : ℕ) → number ≡ fault t r → (number ≡ 0 → ⊥) → is_faulty t r ≡ true
+  numbered-faulty r number e h = ap not (ne_eqb _ 0 (λ z. h (e ∙ z)))
+
   pub is-faulty : (r : ℕ) (f : Fault) → number_of f ≡ fault t r → is_faulty t r ≡ true
-  is-faulty r f e = ap not (ne_eqb _ 0 (λ z. unnumbered f (e ∙ z)))
+  is-faulty r f e = numbered-faulty r (number_of f) e (unnumbered f)
 
   pub faults-whole : (e : ℕ) → e ≡ records t → first_fault t ≡ first (is_faulty t) (e - 0) 0
   unfolding first_fault

@@ -11,30 +11,29 @@ ghost use Rattle.ports.specs.Held.{ports_of, PortPut};
 ghost use Rattle.service_contracts.specs.Called.{Rows, Calls};
 
 use events::{Answer, COLD_START, IDLE, NORMAL, Refusal, WARM_START};
-use ports::{ARRIVAL, COUNT, CREATED, Ports, VALIDITY};
+use ports::{ARRIVAL, COUNT, CREATED, VALIDITY};
 use tables::Tables;
 
 // A port as at load: not created, empty, with validity and arrival 0.
-fn unmake(ports: &mut Ports, k: usize)
-    requires { k < 64 }
-    ensures put { (bytes : List ℕ) → PortPut ports.old.numbers bytes ports.new.numbers bytes k fresh }
-    ensures kept { ports.new.bytes ≡ ports.old.bytes }
+fn unmake(numbers: &mut [u32], k: usize)
+    requires { (length numbers.old ≡ 832) × (k < 64) }
+    ensures { (bytes : List ℕ) → PortPut numbers.old bytes numbers.new bytes k fresh }
 {
-    ports.set_number(k, CREATED, 0);
-    ports.set_number(k, VALIDITY, 0);
-    ports.set_number(k, ARRIVAL, 0);
-    ports.set_number(k, COUNT, 0);
+    ports::set_number(numbers, k, CREATED, 0);
+    ports::set_number(numbers, k, VALIDITY, 0);
+    ports::set_number(numbers, k, ARRIVAL, 0);
+    ports::set_number(numbers, k, COUNT, 0);
 }
 
 // Each port of the caller unmade.
-fn unmake_all(tables: Tables, ports: &mut Ports, p: u8)
-    requires { Rows tables.bytes.now }
-    ensures unmade { (bytes : List ℕ) → ports_of ports.new.numbers bytes (port_count tables.entry.bytes.now) ≡ unmade tables.entry.bytes.now p 0 (ports_of ports.old.numbers bytes (port_count tables.entry.bytes.now)) }
-    ensures kept { ports.new.bytes ≡ ports.old.bytes }
+fn unmake_all(tables: Tables, numbers: &mut [u32], p: u8)
+    requires rows { Rows tables.bytes.now }
+    requires numbers_len { length numbers.old ≡ 832 }
+    ensures { (bytes : List ℕ) → ports_of numbers.new bytes (port_count tables.entry.bytes.now) ≡ unmade tables.entry.bytes.now p 0 (ports_of numbers.old bytes (port_count tables.entry.bytes.now)) }
 {
     for k in 0..tables.ports {
         if tables.owner(k) == p {
-            unmake(ports, k);
+            unmake(numbers, k);
         }
     }
 }
@@ -55,19 +54,19 @@ fn judged(m: u8, mode: u8) -> Result<(), Refusal>
 }
 
 // Refused as it is judged; else set, and modes 0..2 also unmake the caller's ports.
-pub fn set_mode(tables: Tables, modes: &mut [u8], ports: &mut Ports, p: u8, m: u8) -> Answer
+pub fn set_mode(tables: Tables, modes: &mut [u8], numbers: &mut [u32], p: u8, m: u8) -> Answer
     requires rows { Rows tables.bytes.now }
+    requires numbers_len { length numbers.old ≡ 832 }
     requires p_in_bounds { p < length modes.old }
-    ensures called { (bytes : List ℕ) → Calls tables.entry.bytes.now (λ s. set_mode tables.entry.bytes.now s p m) p result modes.old ports.old.numbers bytes modes.new ports.new.numbers bytes }
-    ensures kept { ports.new.bytes ≡ ports.old.bytes }
+    ensures { (bytes : List ℕ) → Calls tables.entry.bytes.now (λ s. set_mode tables.entry.bytes.now s p m) p result modes.old numbers.old bytes modes.new numbers.new bytes }
 {
     let at = p as usize;
     if let Err(why) = judged(m, modes[at]) {
-        return events::refusal(why, p);
+        return events::refused(why, p);
     }
     modes[at] = m;
     if m != NORMAL {
-        unmake_all(tables, ports, p);
+        unmake_all(tables, numbers, p);
     }
     events::done(p)
 }

@@ -45,7 +45,7 @@ module _ {t : Tables} {numbers bytes : List ℕ} (h : Did.Held t numbers bytes) 
   pub few-channels : c < 32
   few-channels = omega (arith, laws.few_channels)
 
-  source-there : source_port t c < port_count t
+  pub source-there : source_port t c < port_count t
   source-there = (laws.sources c there).there
 
   pub few-destinations : destinations t c ≤ 8
@@ -138,12 +138,9 @@ module _ {t : Tables} {numbers bytes : List ℕ} (h : Did.Held t numbers bytes) 
         short : length oldest.0 ≤ 64
         short = omega (arith, between-high 1 source_row.largest (length oldest.0) fit, (laws.rows (source_port t c) source-there).few_bytes)
 
-        module _ {numbers₁ bytes₁ : List ℕ} {l : Letter} (gone : TakesOldest numbers bytes numbers₁ k l) (kept : bytes₁ ≡ bytes) where
+        module _ {numbers₁ : List ℕ} {l : Letter} (gone : TakesOldest numbers bytes numbers₁ k l) where
           taken : (l ≡ letter_of oldest.0) × PortPut numbers bytes numbers₁ bytes (source_port t c) (with_queue source oldest.1)
           taken = subst (λ (x : ℕ). TakesOldest numbers bytes numbers₁ x l) found gone oldest.0 oldest.1 oldest.2
-
-          put : PortPut numbers bytes numbers₁ bytes₁ (source_port t c) (with_queue source oldest.1)
-          put = subst (λ (b : List ℕ). PortPut numbers bytes numbers₁ b (source_port t c) (with_queue source oldest.1)) (sym kept) taken.1
 
           read : written l ≡ oldest.0
           read = ap written taken.0 ∙ written-letter oldest.0 short
@@ -152,11 +149,11 @@ module _ {t : Tables} {numbers bytes : List ℕ} (h : Did.Held t numbers bytes) 
           pub source-carried : Carried t c (written l)
           source-carried = rw read fit
 
-          pub source-held : Did.Held t numbers₁ bytes₁
-          source-held = held-put h put (left-ranged source_row source oldest.0 oldest.1 oldest.2 ranged)
+          pub source-held : Did.Held t numbers₁ bytes
+          source-held = held-put h taken.1 (left-ranged source_row source oldest.0 oldest.1 oldest.2 ranged)
 
           -- the whole move
-          pub moved : {r : Answer} (time : ℕ) (numbers₂ bytes₂ : List ℕ) → Delivered t time c (written l) numbers₁ bytes₁ numbers₂ bytes₂
+          pub moved : {r : Answer} (time : ℕ) (numbers₂ bytes₂ : List ℕ) → Delivered t time c (written l) numbers₁ bytes numbers₂ bytes₂
               → r ≡ told_as (64 + c) nothing_told → Moved t time c r numbers bytes numbers₂ bytes₂
           unfolding transmit
           moved {r} time numbers₂ bytes₂ all answered clock modes =
@@ -172,8 +169,8 @@ module _ {t : Tables} {numbers bytes : List ℕ} (h : Did.Held t numbers bytes) 
               asked : transmit t (λ k. time) s c ≡ transmit_oldest t (λ k. time) s c (oldest.0 ∷ oldest.1)
               asked = ap (transmit_oldest t (λ k. time) s c) (ap (λ q. q.queue) at ∙ oldest.2)
 
-              left : shown t clock modes numbers₁ bytes₁ ≡ with_port s (source_port t c) (with_queue (port s (source_port t c)) oldest.1)
-              left = shown-put t clock modes source-there put ∙ ap (λ q. with_port s (source_port t c) (with_queue q oldest.1)) (sym at)
+              left : shown t clock modes numbers₁ bytes ≡ with_port s (source_port t c) (with_queue (port s (source_port t c)) oldest.1)
+              left = shown-put t clock modes source-there taken.1 ∙ ap (λ q. with_port s (source_port t c) (with_queue q oldest.1)) (sym at)
 
       -- and where there is none
       pub unmoved : {r : Answer} (time : ℕ) → w ≡ 0 → r ≡ refused_as 1 (64 + c) → Moved t time c r numbers bytes numbers bytes

@@ -25,7 +25,8 @@ fn arrive(ports: &mut Ports, time: u32, k: usize, row: PortRow, letter: &Letter)
         return;
     }
     write_and_send::store(ports, k, row, letter);
-    match row.transfer {
+    let transfer = row.transfer;
+    match transfer {
         Transfer::Sampling(_) => ports.set_number(k, ARRIVAL, time),
         // the arrival time of a queuing port is never touched
         Transfer::Queuing(_) => {}
@@ -71,9 +72,9 @@ pub fn transmit(tables: Tables, ports: &mut Ports, time: u32, c: usize) -> Answe
     let doer = FIRST_CHANNEL + c as u8;
     let k = tables.source_port(c);
     if waiting(ports, k) == 0 {
-        return events::refusal(Refusal::NoAction, doer);
+        return events::refused(Refusal::NoAction, doer);
     }
-    let letter = read_and_receive::take_oldest(ports, k);
+    let letter = read_and_receive::take_oldest(&mut ports.numbers, &ports.bytes, k);
     deliver(tables, ports, time, c, &letter);
     events::done(doer)
 }

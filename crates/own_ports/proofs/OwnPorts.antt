@@ -14,7 +14,7 @@ use Rattle.model.specs.Tables.{ports as port_count}
 use Rattle.model.specs.State.{Clock, State, port, is_created}
 use Rattle.model.specs.Events.{Event, Call, need}
 use Rattle.model.specs.Services.{own, use_own, serve}
-use Rattle.model.proofs.Tests.{between-low, between-high}
+use Rattle.model.proofs.Tests.{both_left, between-low, between-high}
 use Rattle.model.proofs.Accepted.{accepted}
 use Rattle.tables.specs.Shown.{decoded}
 use Rattle.tables.specs.Shown as Shown
@@ -73,6 +73,22 @@ module _ (t : Tables) (numbers : List ℕ) (p : ℕ) (f : Call) where
     unfolding own_at
     own-mark m = rw (le-leb 1 f.id l, le-leb f.id (port_count t) h, eq-eqb (row t (f.id - 1)).owner p o, m)
 
+  -- an own port is one of the tables'
+  module _ (owns : own_at t numbers p f ≡ true) where
+    id-between : between 1 (port_count t) f.id ≡ true
+    unfolding own_at
+    id-between =
+        let a = between 1 (port_count t) f.id in
+        let b = eqb (row t (f.id - 1)).owner p in
+        let c = eqb (row t (f.id - 1)).mode (need f.code).mode in
+        both_left a b (both_left (a && b) c (both_left (a && b && c) (eqb (get_or (row_of numbers (f.id - 1)) 0 0) 1) owns))
+
+    pub own-some : 1 ≤ f.id
+    own-some = between-low 1 (port_count t) f.id id-between
+
+    pub own-there : f.id - 1 < port_count t
+    own-there = omega (arith, own-some, between-high 1 (port_count t) f.id id-between)
+
 -- the call, by what that test gave
 module _ (t : Tables) (numbers bytes : List ℕ) (p time : ℕ) (e : Event) (f : Call) {r : Answer} where
   pub use-refused : own_at t numbers p f ≡ false → r ≡ refused_as 3 p → (modes : List ℕ) → Calls t (λ s. use_own t time s p e f) p r modes numbers bytes modes numbers bytes
@@ -81,14 +97,17 @@ module _ (t : Tables) (numbers bytes : List ℕ) (p time : ℕ) (e : Event) (f :
 
   -- the service at an own port is the call
   pub use-served :
-      Held t numbers bytes → own_at t numbers p f ≡ true → {k : ℕ} → k ≡ f.id - 1 → k < port_count t → {w : PortRow} → w ≡ decoded (row t k) → (numbers' bytes' : List ℕ)
+      Held t numbers bytes → own_at t numbers p f ≡ true → {k : ℕ} → k ≡ f.id - 1 → {w : PortRow} → w ≡ decoded (row t k) → (numbers' bytes' : List ℕ)
       → Serves numbers bytes numbers' bytes' k p r (serve time (Shown.row_of w) e f (port_at numbers bytes k)) → (modes : List ℕ)
       → Calls t (λ s. use_own t time s p e f) p r modes numbers bytes modes numbers' bytes'
   unfolding use_own
-  use-served h owns {k} named there {w} shows numbers' bytes' given modes clock =
+  use-served h owns {k} named {w} shows numbers' bytes' given modes clock =
       rw (own-shown t clock modes numbers bytes p f ∙ owns, ← named)
       (serves-does t clock modes numbers bytes numbers' bytes' k p r (serve time (row t k) e f (port s k)) there (subst (Serves numbers bytes numbers' bytes' k p r) same given))
     where
+      there : k < port_count t
+      there = rw named (own-there t numbers p f owns)
+
       s : State
       s = shown t clock modes numbers bytes
 

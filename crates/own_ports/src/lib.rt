@@ -39,7 +39,7 @@ pub fn use_own(tables: Tables, ports: &mut Ports, p: u8, time: u32, call: Call) 
     ensures { (modes : List ℕ) → Calls tables.entry.bytes.now (λ s. use_own tables.entry.bytes.now time s p call.entry.event.now (call_of call.entry)) p result modes ports.old.numbers ports.old.bytes modes ports.new.numbers ports.new.bytes }
 {
     let Some((k, row)) = own(tables, ports, p, call) else {
-        return events::refusal(Refusal::InvalidParam, p);
+        return events::refused(Refusal::InvalidParam, p);
     };
     port_services::serve(ports, k, row, time, call, p)
 }

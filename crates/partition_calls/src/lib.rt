@@ -27,12 +27,19 @@ pub fn service(
     ensures { Calls tables.entry.bytes.now (λ s. service tables.entry.bytes.now time s p call.entry.event.now (call_of call.entry)) p result modes.old ports.old.numbers ports.old.bytes modes.new ports.new.numbers ports.new.bytes }
 {
     if modes[p as usize] == IDLE {
-        return events::refusal(Refusal::CallerIdle, p);
+        return events::refused(Refusal::CallerIdle, p);
     }
     match call.code {
-        Code::CreateSamplingPort | Code::CreateQueuingPort => create(tables, modes, ports, p, call),
+        Code::CreateSamplingPort | Code::CreateQueuingPort => create(
+            tables,
+            modes,
+            &mut ports.numbers,
+            &ports.bytes,
+            p,
+            call,
+        ),
         Code::GetSamplingPortId | Code::GetQueuingPortId => get_id(tables, ports, p, call),
-        Code::SetPartitionMode => set_mode(tables, modes, ports, p, call.choice),
+        Code::SetPartitionMode => set_mode(tables, modes, &mut ports.numbers, p, call.choice),
         _ => use_own(tables, ports, p, time, call),
     }
 }

@@ -31,7 +31,8 @@ fn status(ports: &Ports, k: usize, row: PortRow, doer: u8) -> Answer
         direction: row.direction,
         ..events::done(doer)
     };
-    match row.transfer {
+    let transfer = row.transfer;
+    match transfer {
         Transfer::Sampling(refresh) => Answer {
             number: refresh,
             validity: ports.number(k, VALIDITY) as u8,
@@ -53,9 +54,15 @@ pub fn serve(ports: &mut Ports, k: usize, row: PortRow, time: u32, call: Call, d
     match call.code {
         Code::WriteSamplingMessage | Code::SendQueuingMessage => put(ports, k, row, call, doer),
         Code::ReadSamplingMessage | Code::ReceiveQueuingMessage => get(
-            ports, k, row, time, call, doer,
+            &mut ports.numbers,
+            &ports.bytes,
+            k,
+            row,
+            time,
+            call.code,
+            doer,
         ),
-        Code::ClearQueuingPort => clear(ports, k, row, call, doer),
+        Code::ClearQueuingPort => clear(&mut ports.numbers, &ports.bytes, k, row, call.code, doer),
         _ => status(ports, k, row, doer),
     }
 }

@@ -1,3 +1,4 @@
 pub mod Rows
 pub mod PortAt
+pub mod Alone
 pub mod Marks

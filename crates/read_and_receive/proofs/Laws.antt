@@ -1,11 +1,11 @@
 -- What the proofs of a message handed out lean on: the store of a port that holds one, and the answer that hands it out.
 -- Assumes nothing.
 use Prim.Native.Nat.{ℕ, ◌*◌, ◌≤◌, ◌<◌}
-use mathlib.Core.Path.{◌≡◌, sym, ◌∙◌, ap, ap₂, subst}
+use mathlib.Core.Path.{◌≡◌, sym, ◌∙◌, ap, ap₂}
 use mathlib.Core.List.{List, [], ◌∷◌}
 use native.Mathlib.Omega.{arith}
 use lib.ListN.{length, get_or, take, drop}
-use Rattle.model.specs.State.{Message, Port}
+use Rattle.model.specs.State.{Message}
 use Rattle.model.specs.Answers.{nothing_told, told_message}
 use Rattle.events.specs.declared.answers.Answer.{Answer}
 use Rattle.events.specs.Shown.{told_as}
@@ -14,7 +14,7 @@ use Rattle.stores.specs.declared.Letter.{Letter}
 use Rattle.stores.specs.Ring.{Sized, slot_of, message_in, queue_of, letter_of, dropped}
 use Rattle.stores.proofs.Lists.{length-filled}
 use Rattle.stores.proofs.Laws.{queue-length, queue-empty, queue-dropped}
-use Rattle.ports.specs.Held.{store_at, port_at, PortPut}
+use Rattle.ports.specs.Held.{store_at, port_at}
 use Rattle.ports.proofs.PortAt.{store-queue}
 
 -- a port that holds a message: its store's count, and the store without its oldest message
@@ -37,10 +37,6 @@ head-short numbers bytes k sized m rest e =
     let head : m ≡ message_in st (slot_of st 0) = cc (queue-dropped st some) in
     let size = length-filled (get_or st.lengths (slot_of st 0) 0) (take 64 (drop (64 * slot_of st 0) st.bytes)) in
     omega (arith, ap length head, size, sized.short 0 some)
-
--- one number of port k set: where that is a port put, it is one beside the bytes that stayed
-pub beside : {numbers bytes numbers' bytes' : List ℕ} {k : ℕ} {q : Port} → bytes' ≡ bytes → PortPut numbers bytes numbers' bytes k q → PortPut numbers bytes numbers' bytes' k q
-beside {numbers} {bytes} {numbers'} {k = k} {q = q} same p = subst (λ (b : List ℕ). PortPut numbers bytes numbers' b k q) (sym same) p
 
 -- the answer that hands out a letter
 abbrev handed : ℕ → ℕ → ℕ → List ℕ → Answer

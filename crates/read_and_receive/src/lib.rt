@@ -3,16 +3,17 @@
 
 ghost use Rattle.std.specs.Prelude.{◌≡◌, ◌≤◌, ◌<◌, length, []};
 ghost use Rattle.model.specs.State.{Message, valid};
+ghost use Rattle.model.specs.Events.{Call};
 ghost use Rattle.model.specs.Answers.{told_message};
 ghost use Rattle.model.specs.Services.{mark, read_oldest, take_oldest, get, cleared};
 ghost use Rattle.tables.specs.Shown.{row_of};
-ghost use Rattle.events.specs.Shown.{call_of, told_as};
+ghost use Rattle.events.specs.Shown.{number_of, told_as};
 ghost use Rattle.stores.specs.Ring.{Sized, letter_of};
 ghost use Rattle.ports.specs.Held.{store_at, port_at};
 ghost use Rattle.service_contracts.specs.Served.{Fits, Serves, TakesOldest};
 
-use events::{Answer, Call, Code, Refusal};
-use ports::{ARRIVAL, COUNT, OLDEST, Ports, VALIDITY};
+use events::{Answer, Code, Refusal};
+use ports::{ARRIVAL, COUNT, OLDEST, VALIDITY};
 use stores::Letter;
 use tables::PortRow;
 
@@ -36,74 +37,93 @@ fn validity(refresh: u32, time: u32, arrival: u32) -> u8
 }
 
 // The oldest message of a port that holds one, removed. Its bytes stay in their slot, which no longer counts.
-pub fn take_oldest(ports: &mut Ports, k: usize) -> Letter
+pub fn take_oldest(numbers: &mut [u32], bytes: &[u8], k: usize) -> Letter
+    requires lent { (length numbers.old ≡ 832) × (length bytes.now ≡ 32768) }
     requires there { k < 64 }
-    requires sized { Sized (store_at ports.old.numbers ports.old.bytes k) }
-    requires fact { (port_at ports.old.numbers ports.old.bytes k).queue ≡ [] → ⊥ }
-    ensures taken { TakesOldest ports.old.numbers ports.old.bytes ports.new.numbers k result }
-    ensures bytes_kept { ports.new.bytes ≡ ports.old.bytes }
+    requires sized { Sized (store_at numbers.old bytes.now k) }
+    requires fact { (port_at numbers.old bytes.now k).queue ≡ [] → ⊥ }
+    ensures { TakesOldest numbers.old bytes.now numbers.new k result }
 {
-    let st = ports.take_store(k);
+    let st = ports::take_store(numbers, bytes, k);
     let mut rest = st;
     rest.drop_oldest();
-    ports.set_number(k, OLDEST, rest.oldest);
-    ports.set_number(k, COUNT, rest.count);
+    ports::set_number(numbers, k, OLDEST, rest.oldest);
+    ports::set_number(numbers, k, COUNT, rest.count);
     st.oldest()
 }
 
 // 3: empty, 1; else message and validity, which becomes the last validity; the message stays.
-fn read(ports: &mut Ports, k: usize, row: PortRow, time: u32, doer: u8) -> Answer
-    requires { Fits ports.old.numbers ports.old.bytes k row }
-    ensures served { Serves ports.old.numbers ports.old.bytes ports.new.numbers ports.new.bytes k doer result (read_oldest (row_of row).refresh time (port_at ports.old.numbers ports.old.bytes k) (port_at ports.old.numbers ports.old.bytes k).queue) }
-    ensures kept { ports.new.bytes ≡ ports.old.bytes }
+fn read(numbers: &mut [u32], bytes: &[u8], k: usize, row: PortRow, time: u32, doer: u8) -> Answer
+    requires lent { (length numbers.old ≡ 832) × (length bytes.now ≡ 32768) }
+    requires fits { Fits numbers.old bytes.now k row }
+    ensures { Serves numbers.old bytes.now numbers.new bytes.now k doer result (read_oldest (row_of row).refresh time (port_at numbers.old bytes.now k) (port_at numbers.old bytes.now k).queue) }
 {
-    if ports.number(k, COUNT) == 0 {
-        return events::refusal(Refusal::NoAction, doer);
+    if ports::number(numbers, k, COUNT) == 0 {
+        return events::refused(Refusal::NoAction, doer);
     }
-    let letter = ports.take_store(k).oldest();
-    let v = validity(row.transfer.refresh(), time, ports.number(k, ARRIVAL));
-    ports.set_number(k, VALIDITY, u32::from(v));
+    let letter = ports::take_store(numbers, bytes, k).oldest();
+    let v = validity(
+        row.transfer.refresh(),
+        time,
+        ports::number(numbers, k, ARRIVAL),
+    );
+    ports::set_number(numbers, k, VALIDITY, u32::from(v));
     told_message(doer, &letter, v)
 }
 
 // 8: empty, 2; else the oldest message, removed.
-fn receive(ports: &mut Ports, k: usize, doer: u8) -> Answer
+fn receive(numbers: &mut [u32], bytes: &[u8], k: usize, doer: u8) -> Answer
+    requires lent { (length numbers.old ≡ 832) × (length bytes.now ≡ 32768) }
     requires there { k < 64 }
-    requires sized { Sized (store_at ports.old.numbers ports.old.bytes k) }
-    ensures served { Serves ports.old.numbers ports.old.bytes ports.new.numbers ports.new.bytes k doer result (take_oldest (port_at ports.old.numbers ports.old.bytes k) (port_at ports.old.numbers ports.old.bytes k).queue) }
-    ensures kept { ports.new.bytes ≡ ports.old.bytes }
+    requires sized { Sized (store_at numbers.old bytes.now k) }
+    ensures { Serves numbers.old bytes.now numbers.new bytes.now k doer result (take_oldest (port_at numbers.old bytes.now k) (port_at numbers.old bytes.now k).queue) }
 {
-    if ports.number(k, COUNT) == 0 {
-        return events::refusal(Refusal::NotAvailable, doer);
+    if ports::number(numbers, k, COUNT) == 0 {
+        return events::refused(Refusal::NotAvailable, doer);
     }
-    let letter = take_oldest(ports, k);
+    let letter = take_oldest(numbers, bytes, k);
     told_message(doer, &letter, 0)
 }
 
-// 3 and 8: not a destination, 5.
-pub fn get(ports: &mut Ports, k: usize, row: PortRow, time: u32, call: Call, doer: u8) -> Answer
-    requires { Fits ports.old.numbers ports.old.bytes k row }
-    ensures served { Serves ports.old.numbers ports.old.bytes ports.new.numbers ports.new.bytes k doer result (get time (row_of row) (call_of call.entry) (port_at ports.old.numbers ports.old.bytes k)) }
-    ensures kept { ports.new.bytes ≡ ports.old.bytes }
+// 3 and 8: not a destination, 5. Of a call the code is all that is needed.
+pub fn get(
+    numbers: &mut [u32],
+    bytes: &[u8],
+    k: usize,
+    row: PortRow,
+    time: u32,
+    code: Code,
+    doer: u8,
+) -> Answer
+    requires lent { (length numbers.old ≡ 832) × (length bytes.now ≡ 32768) }
+    requires fits { Fits numbers.old bytes.now k row }
+    ensures { (f : Call) → f.code ≡ number_of code → Serves numbers.old bytes.now numbers.new bytes.now k doer result (get time (row_of row) f (port_at numbers.old bytes.now k)) }
 {
-    if !events::directed(call.code, row.direction) {
-        return events::refusal(Refusal::InvalidMode, doer);
+    if !events::directed(code, row.direction) {
+        return events::refused(Refusal::InvalidMode, doer);
     }
-    match call.code {
-        Code::ReadSamplingMessage => read(ports, k, row, time, doer),
-        _ => receive(ports, k, doer),
+    match code {
+        Code::ReadSamplingMessage => read(numbers, bytes, k, row, time, doer),
+        _ => receive(numbers, bytes, k, doer),
     }
 }
 
 // 11: not a destination, 5; else emptied.
-pub fn clear(ports: &mut Ports, k: usize, row: PortRow, call: Call, doer: u8) -> Answer
-    requires { Fits ports.old.numbers ports.old.bytes k row }
-    ensures served { Serves ports.old.numbers ports.old.bytes ports.new.numbers ports.new.bytes k doer result (cleared (row_of row) (call_of call.entry) (port_at ports.old.numbers ports.old.bytes k)) }
-    ensures kept { ports.new.bytes ≡ ports.old.bytes }
+pub fn clear(
+    numbers: &mut [u32],
+    bytes: &[u8],
+    k: usize,
+    row: PortRow,
+    code: Code,
+    doer: u8,
+) -> Answer
+    requires lent { (length numbers.old ≡ 832) × (length bytes.now ≡ 32768) }
+    requires fits { Fits numbers.old bytes.now k row }
+    ensures { (f : Call) → f.code ≡ number_of code → Serves numbers.old bytes.now numbers.new bytes.now k doer result (cleared (row_of row) f (port_at numbers.old bytes.now k)) }
 {
-    if !events::directed(call.code, row.direction) {
-        return events::refusal(Refusal::InvalidMode, doer);
+    if !events::directed(code, row.direction) {
+        return events::refused(Refusal::InvalidMode, doer);
     }
-    ports.set_number(k, COUNT, 0);
+    ports::set_number(numbers, k, COUNT, 0);
     events::done(doer)
 }

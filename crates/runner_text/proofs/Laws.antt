@@ -3,12 +3,13 @@ use Prim.Native.Nat.{ℕ, zero, suc, ◌+◌, ◌-◌, ◌/◌, ◌%◌, ◌≤�
 use mathlib.Core.Path.{◌≡◌, refl, sym, ap, ap₂, ◌∙◌, subst}
 use mathlib.Core.List.{List, [], ◌∷◌, ◌++◌, append_assoc}
 use native.Mathlib.Nat.{add_assoc, add-zero}
+use native.Mathlib.Numerals.{add-one}
 use native.Mathlib.Omega.{arith}
-use lib.ListN.{length, take, drop, length-append, length-take, length-drop, take-append-drop}
-use lib.Seq.{take_at, drop-append-add, drop-drop, length-take-le}
+use lib.ListN.{length, take, drop, get_or, length-append, length-take, length-drop, take-append-drop}
+use lib.Seq.{take_at, drop-append-add, drop-drop, take-suc, length-take-le}
 use borrow.Author.Tests.{lt-ltb, le-ltb}
 use borrow.Rule.Slice.PartMut.{put_mid}
-use Rattle.runner_text.specs.Text.{digits, field}
+use Rattle.runner_text.specs.Text.{digits, field, hex, hex_byte}
 use Rattle.runner_text.specs.Wrote.{put, Wrote, Adds}
 use Rattle.runner_text.specs.declared.page.Page.{Page}
 
@@ -78,6 +79,16 @@ pub wrote_as : {m n : ℕ} {xs ys out out' : List ℕ} {at next : ℕ} → m ≤
 wrote_as {m} {n} {xs} {ys} {out} {out'} {at} {next} more same f =
     subst (λ l. Wrote n l out at next out') same
     (record { within = omega (arith, f.within); after = f.after; kept = f.kept; laid = f.laid })
+
+-- hexadecimal digits
+pub hex-append : (xs ys : List ℕ) → hex (xs ++ ys) ≡ hex xs ++ hex ys
+hex-append [] ys = refl
+hex-append (x ∷ xs) ys = ap (λ l. hex_byte x ++ l) (hex-append xs ys) ∙ sym (append_assoc (hex_byte x) (hex xs) (hex ys))
+
+pub hex-more : (bytes : List ℕ) (i : ℕ) → i < length bytes → hex (take i bytes) ++ hex_byte (get_or bytes i 0) ≡ hex (take (i + 1) bytes)
+unfolding hex_byte
+hex-more bytes i below =
+    sym (ap (λ k. hex (take k bytes)) (add-one i) ∙ ap hex (take-suc bytes i 0 below) ∙ hex-append (take i bytes) (get_or bytes i 0 ∷ []))
 
 pub wrote-same : {m : ℕ} {xs ys out out' : List ℕ} {at next : ℕ} → xs ≡ ys → Wrote m xs out at next out' → Wrote m ys out at next out'
 wrote-same same f = wrote_as (omega arith) same f

@@ -32,6 +32,10 @@ use Rattle.state_test.specs.Tested.{modes_fit, length_fits, lengths_fit, numbers
 
 -- ---- bounded searches
 
+all-shift : (p : ℕ → Bool) (n k : ℕ) → all p n (suc k) ≡ all (λ i. p (suc i)) n k
+all-shift p zero k = refl
+all-shift p (suc n) k = ap (λ rest. p (suc k) && rest) (all-shift p n (suc k))
+
 -- std's test of each element is the model's
 pub list-all : {A : Type 0} (p : A → Bool) (l : List A) → list_all p l ≡ all_in p l
 list-all p [] = refl

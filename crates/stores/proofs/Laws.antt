@@ -13,7 +13,7 @@ use Rattle.model.specs.Words.{filled}
 use Rattle.model.specs.State.{Message}
 use Rattle.stores.specs.declared.Letter.{Letter}
 use Rattle.stores.specs.declared.Store.{Store}
-use Rattle.stores.specs.Ring.{slot_of, message_in, messages_from, queue_of, written, letter_of, pasted, appended, dropped, oldest_of, no_messages, all_filled, lay_out, Short}
+use Rattle.stores.specs.Ring.{slot_of, message_in, messages_from, queue_of, written, letter_of, pasted, laid_behind, appended, dropped, oldest_of, no_messages, all_filled, lay_out, Short}
 use Rattle.stores.proofs.Lists.{pasted-one, length-filled, take-filled, filled-append}
 use Rattle.stores.proofs.Slots.{placed, messages-length, messages-at, messages-same, messages-last, message-kept, message-stored}
 
@@ -114,24 +114,35 @@ pub lay_out-lengths : (q : List Message) → length (lay_out q).lengths ≡ 8
 unfolding lay_out
 lay_out-lengths q = length-filled 8 (map length q)
 
--- one message more is one letter more
-pub lay_out-append : (q : List Message) (m : Message) → length q < 8 → length m ≤ 64 → lay_out (q ++ m ∷ []) ≡ appended (lay_out q) (letter_of m)
-unfolding lay_out appended
-lay_out-append q m room fits =
+-- a letter of a message that it holds whole is the message's bytes and its length
+pub appended-whole : (st : Store) (m : Message) → length m ≤ 64 → appended st (letter_of m) ≡ laid_behind st (filled 64 m) (length m)
+unfolding appended laid_behind
+appended-whole st m fits =
+    let whole : min (length m) 64 ≡ length m = omega arith in
+    ap (laid_behind st (filled 64 m)) whole
+
+-- one message more, of any length, is its first 64 bytes and its length behind the others
+pub lay_out-behind : (q : List Message) (m : Message) → length q < 8 → lay_out (q ++ m ∷ []) ≡ laid_behind (lay_out q) (filled 64 m) (length m)
+unfolding lay_out laid_behind
+lay_out-behind q m room =
     let place : length q ≡ (0 + length q) % 8 = omega arith in
     let bytes : filled 512 (all_filled (q ++ m ∷ [])) ≡ pasted (filled 512 (all_filled q)) (64 * ((0 + length q) % 8)) (filled 64 m) =
     ap (filled 512) (filled-joined q (m ∷ []) ∙ ap (λ part. all_filled q ++ part) (append-nil (filled 64 m)))
     ∙ filled-append 512 (all_filled q) (filled 64 m) (omega (arith, filled-size q, length-filled 64 m))
     ∙ ap (λ at. pasted (filled 512 (all_filled q)) at (filled 64 m)) (filled-size q ∙ ap (λ k. 64 * k) place)
     in
-    let sizes : filled 8 (map length (q ++ m ∷ [])) ≡ set (filled 8 (map length q)) ((0 + length q) % 8) (min (length m) 64) =
+    let sizes : filled 8 (map length (q ++ m ∷ [])) ≡ set (filled 8 (map length q)) ((0 + length q) % 8) (length m) =
     ap (filled 8) (sizes-joined q (m ∷ []))
     ∙ filled-append 8 (map length q) (length m ∷ []) (omega (arith, length-map q length))
     ∙ pasted-one (filled 8 (map length q)) (length (map length q)) (length m) (omega (arith, length-map q length, length-filled 8 (map length q)))
-    ∙ ap₂ (set (filled 8 (map length q))) (length-map q length ∙ place) (omega arith)
+    ∙ ap (λ at. set (filled 8 (map length q)) at (length m)) (length-map q length ∙ place)
     in
     let counted : length (q ++ m ∷ []) ≡ length q + 1 = length-append q (m ∷ []) in
     λ i. record { bytes = bytes i; lengths = sizes i; oldest = 0; count = counted i }
+
+-- and one of at most 64 bytes is one letter more
+pub lay_out-append : (q : List Message) (m : Message) → length q < 8 → length m ≤ 64 → lay_out (q ++ m ∷ []) ≡ appended (lay_out q) (letter_of m)
+lay_out-append q m room fits = lay_out-behind q m room ∙ sym (appended-whole (lay_out q) m fits)
 
 -- what is laid out is what the store holds
 laid_none : queue_of (lay_out []) ≡ []
@@ -153,11 +164,16 @@ laid-prefix q few short (suc k) h =
 pub queue-lay_out : (q : List Message) → length q ≤ 8 → Short q → queue_of (lay_out q) ≡ q
 queue-lay_out q few short = rw (take-length q) at (laid-prefix q few short (length q) (omega arith))
 
--- the first messages of a store laid out, and one message more
+-- the first messages of a store laid out, and one message more, of any length or of at most 64 bytes
+pub lay_out-behind_next : (st : Store) (i : ℕ) → i < st.count → i < 8
+    → laid_behind (lay_out (take i (queue_of st))) (filled 64 (message_in st (slot_of st i))) (length (message_in st (slot_of st i))) ≡ lay_out (take (i + 1) (queue_of st))
+lay_out-behind_next st i more room =
+    let inside : i < length (queue_of st) = omega (arith, queue-length st) in
+    let counted : length (take i (queue_of st)) ≡ i = length-take-le i (queue_of st) (omega arith) in
+    rw (← (queue-at st i more), ← (lay_out-behind (take i (queue_of st)) (get_or (queue_of st) i []) (omega arith)), add-one)
+    (ap lay_out (sym (take-suc (queue_of st) i [] inside)))
+
 pub lay_out-next : (st : Store) (i : ℕ) → i < st.count → i < 8 → length (message_in st (slot_of st i)) ≤ 64
     → appended (lay_out (take i (queue_of st))) (letter_of (message_in st (slot_of st i))) ≡ lay_out (take (i + 1) (queue_of st))
 lay_out-next st i more room fits =
-    let inside : i < length (queue_of st) = omega (arith, queue-length st) in
-    let counted : length (take i (queue_of st)) ≡ i = length-take-le i (queue_of st) (omega arith) in
-    rw (← (queue-at st i more), ← (lay_out-append (take i (queue_of st)) (get_or (queue_of st) i []) (omega arith) (rw (queue-at st i more) fits)), add-one)
-    (ap lay_out (sym (take-suc (queue_of st) i [] inside)))
+    appended-whole (lay_out (take i (queue_of st))) (message_in st (slot_of st i)) fits ∙ lay_out-behind_next st i more room

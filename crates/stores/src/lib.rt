@@ -90,7 +90,7 @@ impl Store {
     }
 
     // 64 bytes, with any number for their length, put into the slot behind the last.
-    pub fn lay_behind(&mut self, bytes: &[u8], size: u32)
+    pub fn append(&mut self, bytes: &[u8], size: u32)
         requires room { self.old.count < slots }
         requires whole { length bytes.now ≡ slot_size }
         ensures { self.new ≡ laid_behind self.old bytes.now size }
@@ -103,12 +103,12 @@ impl Store {
     }
 
     // A letter put there.
-    pub fn append(&mut self, letter: &Letter)
+    pub fn push(&mut self, letter: &Letter)
         requires { self.old.count < slots }
         ensures appended { self.new ≡ appended self.old letter.now }
         ensures queued { queue_of self.new ≡ queue_of self.old ++ written letter.now ∷ [] }
     {
-        self.lay_behind(&letter.bytes, letter.size);
+        self.append(&letter.bytes, letter.size);
     }
 
     // The oldest message, which stays.
@@ -138,7 +138,7 @@ impl Store {
     {
         let mut settled = Store::empty();
         for i in 0..self.count {
-            settled.append(&self.letter(i));
+            settled.push(&self.letter(i));
         }
         settled
     }

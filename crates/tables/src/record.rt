@@ -1,5 +1,5 @@
 // A record of tables, read where it stands: what it counts as, and the fields of a window, a port and a channel, in range or not.
-ghost use Rattle.std.specs.Prelude.{◌+◌, ◌<◌, ◌≤◌, ◌≡◌};
+ghost use Rattle.std.specs.Prelude.{◌+◌, ◌^◌, ◌<◌, ◌≤◌, ◌≡◌};
 ghost use Rattle.model.specs.Words.{byte, word16, word32, blank};
 ghost use Rattle.model.specs.Tables.{records, start, kind, window_partition, window_length, row_at, name_start, same_name, destinations_at, end_at};
 ghost use Rattle.tables.specs.Shown.{kind_of, decoded};
@@ -160,7 +160,8 @@ impl<'a> Record<'a> {
     // stands past the tables, where the id is 0.
     pub fn id(self, j: usize) -> usize
         requires { j < 256 }
-        ensures { result ≡ end_at self.entry.tables.bytes.now self.entry.number j }
+        ensures value { result ≡ end_at self.entry.tables.bytes.now self.entry.number j }
+        ensures small { result < 2 ^ 32 }
     {
         word16_at(
             self.tables.bytes,

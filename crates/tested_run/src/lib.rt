@@ -24,7 +24,10 @@ pub fn state_fits(tables: Tables, state: State) -> bool
     requires { accepts tables.bytes.now ≡ true }
     ensures { result ≡ state_fits tables.entry.bytes.now state }
 {
-    state_test::in_range(tables, state.window, &state.modes, &state.numbers)
+    // what is looked at is copied: where fields of the state are lent, the whole of it is copied at the call
+    let modes = state.modes;
+    let numbers = state.numbers;
+    state_test::in_range(tables, state.window, &modes, &numbers)
 }
 
 #[tactic(auto, unfolding(states::specs::Shown::is_sound))]
@@ -54,7 +57,13 @@ pub fn run_list(tables: Tables, state: State, events: &[u8], answers: &mut [u8])
         time,
     };
     let last = run_events(tables, clock, &mut modes, &mut ports, events, answers);
-    put_together(&ports, tables.ports, &mut settled);
+    put_together(
+        &ports.numbers,
+        &ports.bytes,
+        tables.ports,
+        &mut settled.numbers,
+        &mut settled.bytes,
+    );
     let Ports { numbers, bytes } = settled;
     State {
         window: last.window as u32,

@@ -12,7 +12,7 @@ ghost use Rattle.service_contracts.specs.Served.{Fits, Serves};
 
 use events::{Answer, BODY_AT, Call, Refusal};
 use ports::{COUNT, Ports};
-use stores::{Letter, Store};
+use stores::Letter;
 use tables::{PortRow, Transfer};
 
 // A message offered to a store: it is lost where the store holds its depth.
@@ -24,7 +24,7 @@ fn offer(ports: &mut Ports, k: usize, depth: u32, letter: &Letter)
         return;
     }
     let mut st = ports.take_store(k);
-    st.append(letter);
+    st.push(letter);
     ports.put_store(k, &st);
 }
 
@@ -33,11 +33,10 @@ pub fn store(ports: &mut Ports, k: usize, row: PortRow, letter: &Letter)
     requires { Fits ports.old.numbers ports.old.bytes k row }
     ensures { PortPut ports.old.numbers ports.old.bytes ports.new.numbers ports.new.bytes k (with_queue (port_at ports.old.numbers ports.old.bytes k) (stored (row_of row) (port_at ports.old.numbers ports.old.bytes k).queue (written letter.now))) }
 {
-    match row.transfer {
+    let transfer = row.transfer;
+    match transfer {
         Transfer::Sampling(_) => {
-            let mut st = Store::empty();
-            st.append(letter);
-            ports.put_store(k, &st);
+            ports.put_alone(k, letter);
         }
         Transfer::Queuing(depth) => {
             offer(ports, k, depth, letter);
@@ -51,13 +50,13 @@ pub fn put(ports: &mut Ports, k: usize, row: PortRow, call: Call, doer: u8) -> A
     ensures { Serves ports.old.numbers ports.old.bytes ports.new.numbers ports.new.bytes k doer result (put (row_of row) call.entry.event.now (call_of call.entry) (port_at ports.old.numbers ports.old.bytes k)) }
 {
     if call.size == 0 {
-        return events::refusal(Refusal::InvalidParam, doer);
+        return events::refused(Refusal::InvalidParam, doer);
     }
     if row.largest < call.size {
-        return events::refusal(Refusal::InvalidConfig, doer);
+        return events::refused(Refusal::InvalidConfig, doer);
     }
     if !events::directed(call.code, row.direction) {
-        return events::refusal(Refusal::InvalidMode, doer);
+        return events::refused(Refusal::InvalidMode, doer);
     }
     let letter = Letter::of(&call.event[BODY_AT..BODY_AT + call.size as usize]);
     store(ports, k, row, &letter);

@@ -11,7 +11,7 @@ returns-in-Some c =
     let t = r.tables.bytes.now in
     let found = c.in-Some.ensures.some in
     let its = c.requires.source_row in
-    let own = rowed t _ _ (rw c.id.ensures at found.has) in
+    let own = rowed t _ _ (rw c.id.ensures.value at found.has) in
     let from = rowed t _ _ its.has in
     (rw (found.same, its.same, own.stands, from.stands) at c.takes_from.ensures) ∙ sym (destination-end t r.number c.args.j c.requires.j_nonzero.0 own.has)
 
@@ -19,4 +19,4 @@ pub returns-in-None : goal.returns-in-None
 unfolding end_fits
 returns-in-None c =
     let t = c.args.channel.tables.bytes.now in
-    rw (rowless t _ (rw c.id.ensures at c.in-None.ensures.none))
+    rw (rowless t _ (rw c.id.ensures.value at c.in-None.ensures.none))

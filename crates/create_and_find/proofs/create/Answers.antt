@@ -21,29 +21,29 @@ use Rattle.create_and_find.proofs.create.Goals as goal
 pub look_up-requires-clause-rows : goal.look_up-requires-clause-rows
 look_up-requires-clause-rows c = rows_of c.requires.held
 
-pub returns-in_default-clause-called : goal.returns-in_default-clause-called
-returns-in_default-clause-called c =
+pub returns-in_default : goal.returns-in_default
+returns-in_default c =
     let a = c.args in
     let past : ports a.tables.bytes.now ≤ look_up a.tables.bytes.now a.p c.need.result.mode a.call.event.now = omega (arith, c.in_default.ensures) in
     λ clock. rw
-    (create-none a.tables.bytes.now clock a.modes.now a.ports.now.numbers a.ports.now.bytes a.p a.call.event.now (call_of a.call) c.need.ensures past) (refused-does c.refusal.ensures)
+    (create-none a.tables.bytes.now clock a.modes.now a.numbers.now a.bytes.now a.p a.call.event.now (call_of a.call) c.need.ensures past) (refused-does c.refused.ensures)
 
 pub make-requires : goal.make-requires
 make-requires c =
     let t = accepted c.args.tables.bytes.now c.requires.held.accepted in
-    omega (arith, c.in-Some.ensures.0, t.few_ports)
+    (c.requires.numbers_len, omega (arith, c.in-Some.ensures.0, t.few_ports))
 
-pub returns-clause-called : goal.returns-clause-called
-returns-clause-called c =
+pub returns : goal.returns
+returns c =
     let a = c.args in
     let t = a.tables.bytes.now in
-    let n = a.ports.now.numbers in
-    let b = a.ports.now.bytes in
+    let n = a.numbers.now in
+    let b = a.bytes.now in
     let f = call_of a.call in
     let k = c.in-Some.k in
     let there = c.in-Some.ensures.0 in
     let shows = row_read t (accepted t c.requires.held.accepted) k there c.row.ensures in
-    let after = c.make.new.ports in
+    let after = c.make.new.numbers in
     λ clock.
     let st = shown t clock a.modes.now n b in
     let served = made (suc k) (mode_of st a.p) (row t k) f (port st k) in
@@ -52,4 +52,4 @@ returns-clause-called c =
     ∙ ap₂ (λ x q. made (suc k) (get_or a.modes.now a.p 0) x f q) shows (sym (shown-port t clock a.modes.now n b k there))
     in
     rw (create-found t clock a.modes.now n b a.p a.call.event.now f c.need.ensures c.in-Some.ensures)
-    (serves-does t clock a.modes.now n b after.numbers after.bytes k a.p c.make.result served there (subst (Serves n b after.numbers after.bytes k a.p c.make.result) same c.make.ensures.served))
+    (serves-does t clock a.modes.now n b after b k a.p c.make.result served there (subst (Serves n b after b k a.p c.make.result) same c.make.ensures))

@@ -21,7 +21,7 @@ returns-in_default c =
     let a = c.args in
     let past : ports a.tables.bytes.now ≤ look_up a.tables.bytes.now a.p c.need.result.mode a.call.event.now = omega (arith, c.in_default.ensures) in
     λ modes clock. rw
-    (id-none a.tables.bytes.now clock modes a.ports.now.numbers a.ports.now.bytes a.p a.call.event.now (call_of a.call) c.need.ensures past) (refused-does c.refusal.ensures)
+    (id-none a.tables.bytes.now clock modes a.ports.now.numbers a.ports.now.bytes a.p a.call.event.now (call_of a.call) c.need.ensures past) (refused-does c.refused.ensures)
 
 pub number-requires : goal.number-requires
 number-requires c =
@@ -32,7 +32,7 @@ pub returns-then-number-ne1 : goal.returns-then-number-ne1
 returns-then-number-ne1 c =
     let a = c.args in
     λ modes clock. rw
-    (id-unmade a.tables.bytes.now clock modes a.ports.now.numbers a.ports.now.bytes a.p a.call.event.now (call_of a.call) c.need.ensures c.in-Some.ensures c.number.ensures c.if-number-ne1.true) (refused-does c.refusal-then-number-ne1.ensures)
+    (id-unmade a.tables.bytes.now clock modes a.ports.now.numbers a.ports.now.bytes a.p a.call.event.now (call_of a.call) c.need.ensures c.in-Some.ensures c.number.ensures c.if-number-ne1.true) (refused-does c.refused-then-number-ne1.ensures)
 
 pub overflow_cast-k : goal.overflow_cast-k
 overflow_cast-k c =

@@ -12,7 +12,7 @@ use Rattle.event_step.proofs.call_turn.Goals as goal
 pub returns-then-owner-eq-MOVER : goal.returns-then-owner-eq-MOVER
 returns-then-owner-eq-MOVER c =
     Laws.acts (Laws.at-mover-call c.args.tables.bytes.now _ c.args.call.event.now (call_of c.args.call) c.requires.asked (sym c.window_partition-owner.ensures ∙ c.if-owner-eq-MOVER.true))
-    (refused-does c.refusal.ensures)
+    (refused-does c.refused.ensures)
 
 pub returns : goal.returns
 returns c =

@@ -9,13 +9,13 @@ pub returns-then-window_partition-ne-MOVER : goal.returns-then-window_partition-
 returns-then-window_partition-ne-MOVER c =
     λ modes event asked.
     Laws.acts (Laws.at-partition-move c.args.tables.bytes.now _ event c.args.c asked (λ z. c.if-window_partition-ne-MOVER.true (c.window_partition.ensures ∙ z)))
-    (refused-does c.refusal.ensures)
+    (refused-does c.refused.ensures)
 
 pub returns-then-tables-channel : goal.returns-then-tables-channel
 returns-then-tables-channel c =
     λ modes event asked.
     Laws.acts (Laws.at-no-channel c.args.tables.bytes.now _ event c.args.c asked (sym c.window_partition.ensures ∙ c.if-window_partition-ne-MOVER.false) (omega arith))
-    (refused-does c.refusal-then-tables-channel.ensures)
+    (refused-does c.refused-then-tables-channel.ensures)
 
 pub returns : goal.returns
 returns c =

@@ -2,5 +2,5 @@
 use Rattle.modes.proofs.Unmade.{unmade-row}
 use Rattle.modes.proofs.unmake.Goals as goal
 
-pub returns-clause-put : goal.returns-clause-put
-returns-clause-put c = unmade-row c.set_number.ensures.row c.set_number-2.ensures.row c.set_number-3.ensures.row c.set_number-4.ensures.row
+pub returns : goal.returns
+returns c = unmade-row c.set_number.ensures c.set_number-2.ensures c.set_number-3.ensures c.set_number-4.ensures

@@ -1,10 +1,6 @@
 -- `modes::unmake_all` meets its contract: after k turns the first k rows are swept. Assumes nothing.
-use mathlib.Core.Path.{◌≡◌}
 use Rattle.modes.proofs.Sweep.{Swept}
 use Rattle.modes.proofs.unmake_all.Given as goal
 
 abbrev pub invariant-loop-k : goal.invariant-loop-k
-invariant-loop-k l = record {
-  swept : Swept l.tables.bytes.now l.p l.k l.initial.ports.numbers l.ports.numbers;
-  kept : l.ports.bytes ≡ l.initial.ports.bytes;
-}
+invariant-loop-k l = Swept l.tables.bytes.now l.p l.k l.initial.numbers l.numbers

@@ -22,17 +22,22 @@ waiting-requires c =
 pub returns-then-waiting-eq0 : goal.returns-then-waiting-eq0
 returns-then-waiting-eq0 c =
     let there : c.args.c < channels c.args.tables.bytes.now = omega arith in
-    unmoved c.requires.held c.args.c there c.source_port-k.ensures c.waiting.ensures c.args.time c.if-waiting-eq0.true c.refusal.ensures
+    unmoved c.requires.held c.args.c there c.source_port-k.ensures c.waiting.ensures c.args.time c.if-waiting-eq0.true c.refused.ensures
 
-pub take_oldest-letter-requires : goal.take_oldest-letter-requires
-take_oldest-letter-requires c =
+pub take_oldest-letter-requires-clause-there : goal.take_oldest-letter-requires-clause-there
+take_oldest-letter-requires-clause-there c =
     let there : c.args.c < channels c.args.tables.bytes.now = omega arith in
-    let found = c.source_port-k.ensures in
-    record {
-      there = omega (arith, source-few c.requires.held c.args.c there found);
-      sized = source-sized c.requires.held c.args.c there found;
-      fact = source-some c.requires.held c.args.c there found c.waiting.ensures c.if-waiting-eq0.false;
-    }
+    omega (arith, source-few c.requires.held c.args.c there c.source_port-k.ensures)
+
+pub take_oldest-letter-requires-clause-sized : goal.take_oldest-letter-requires-clause-sized
+take_oldest-letter-requires-clause-sized c =
+    let there : c.args.c < channels c.args.tables.bytes.now = omega arith in
+    source-sized c.requires.held c.args.c there c.source_port-k.ensures
+
+pub take_oldest-letter-requires-clause-fact : goal.take_oldest-letter-requires-clause-fact
+take_oldest-letter-requires-clause-fact c =
+    let there : c.args.c < channels c.args.tables.bytes.now = omega arith in
+    source-some c.requires.held c.args.c there c.source_port-k.ensures c.waiting.ensures c.if-waiting-eq0.false
 
 pub deliver-requires : goal.deliver-requires
 deliver-requires c =
@@ -42,14 +47,13 @@ deliver-requires c =
     let some = c.if-waiting-eq0.false in
     let gone = c.take_oldest-letter.ensures in
     record {
-      held = source-held c.requires.held c.args.c there found counted some gone.taken gone.bytes_kept;
+      held = source-held c.requires.held c.args.c there found counted some gone;
       there = c.requires.there;
-      carried = source-carried c.requires.held c.args.c there found counted some gone.taken gone.bytes_kept;
+      carried = source-carried c.requires.held c.args.c there found counted some gone;
     }
 
 pub returns : goal.returns
 returns c =
     let there : c.args.c < channels c.args.tables.bytes.now = omega arith in
-    let gone = c.take_oldest-letter.ensures in
-    moved c.requires.held c.args.c there c.source_port-k.ensures c.waiting.ensures c.if-waiting-eq0.false gone.taken gone.bytes_kept
+    moved c.requires.held c.args.c there c.source_port-k.ensures c.waiting.ensures c.if-waiting-eq0.false c.take_oldest-letter.ensures
     c.args.time c.deliver.new.ports.numbers c.deliver.new.ports.bytes c.deliver.ensures assumption

@@ -10,7 +10,7 @@ own-requires c = rows_of c.requires
 pub returns-in_default : goal.returns-in_default
 returns-in_default c =
     let a = c.args in
-    use-refused a.tables.bytes.now a.ports.now.numbers a.ports.now.bytes a.p a.time a.call.event.now (call_of a.call) c.in_default.ensures c.refusal.ensures
+    use-refused a.tables.bytes.now a.ports.now.numbers a.ports.now.bytes a.p a.time a.call.event.now (call_of a.call) c.in_default.ensures c.refused.ensures
 
 pub serve-requires : goal.serve-requires
 serve-requires c =
@@ -22,4 +22,4 @@ returns c =
     let a = c.args in
     let o = c.in-Some.ensures in
     let after = c.serve.new.ports in
-    use-served a.tables.bytes.now a.ports.now.numbers a.ports.now.bytes a.p a.time a.call.event.now (call_of a.call) c.requires o.0 o.1 o.2 o.3 after.numbers after.bytes c.serve.ensures
+    use-served a.tables.bytes.now a.ports.now.numbers a.ports.now.bytes a.p a.time a.call.event.now (call_of a.call) c.requires o.0 o.1 o.3 after.numbers after.bytes c.serve.ensures

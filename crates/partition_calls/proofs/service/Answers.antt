@@ -17,7 +17,7 @@ returns-then-modes-p-eq-IDLE c =
     let a = c.args in
     let t = a.tables.bytes.now in
     λ clock. rw
-    (by-idle t a.time (shown t clock a.modes.now a.ports.now.numbers a.ports.now.bytes) a.p a.call.event.now (call_of a.call) c.if-modes-p-eq-IDLE.true) (refused-does c.refusal.ensures)
+    (by-idle t a.time (shown t clock a.modes.now a.ports.now.numbers a.ports.now.bytes) a.p a.call.event.now (call_of a.call) c.if-modes-p-eq-IDLE.true) (refused-does c.refused.ensures)
 
 pub returns-in-CreateSamplingPort : goal.returns-in-CreateSamplingPort
 returns-in-CreateSamplingPort c =
@@ -25,7 +25,7 @@ returns-in-CreateSamplingPort c =
     let t = a.tables.bytes.now in
     let running : get_or a.modes.now a.p 0 ≡ 0 → ⊥ = assumption in
     λ clock. rw
-    (by-create t a.time (shown t clock a.modes.now a.ports.now.numbers a.ports.now.bytes) a.p a.call.event.now (call_of a.call) running (search rules)) (c.create.ensures.called clock)
+    (by-create t a.time (shown t clock a.modes.now a.ports.now.numbers a.ports.now.bytes) a.p a.call.event.now (call_of a.call) running (search rules)) (c.create.ensures clock)
 
 pub returns-in-GetSamplingPortId : goal.returns-in-GetSamplingPortId
 returns-in-GetSamplingPortId c =
@@ -41,7 +41,7 @@ returns-in-SetPartitionMode c =
     let t = a.tables.bytes.now in
     let running : get_or a.modes.now a.p 0 ≡ 0 → ⊥ = assumption in
     λ clock. rw
-    (c.set_mode.ensures.kept, by-set-mode t a.time (shown t clock a.modes.now a.ports.now.numbers a.ports.now.bytes) a.p a.call.event.now (call_of a.call) running (ap number_of c.in-SetPartitionMode.is)) (c.set_mode.ensures.called a.ports.now.bytes clock)
+    (by-set-mode t a.time (shown t clock a.modes.now a.ports.now.numbers a.ports.now.bytes) a.p a.call.event.now (call_of a.call) running (ap number_of c.in-SetPartitionMode.is)) (c.set_mode.ensures a.ports.now.bytes clock)
 
 pub returns-in_default : goal.returns-in_default
 returns-in_default c =

@@ -17,14 +17,14 @@ use Rattle.read_and_receive.proofs.take_oldest.Goals as goal
 pub drop_oldest-requires : goal.drop_oldest-requires
 drop_oldest-requires c =
     let a = c.args in
-    subst (λ (st : Store). 0 < st.count) (sym c.take_store-st.ensures) (some-count a.ports.now.numbers a.ports.now.bytes a.k c.requires.fact)
+    subst (λ (st : Store). 0 < st.count) (sym c.take_store-st.ensures) (some-count a.numbers.now a.bytes.now a.k c.requires.fact)
 
-pub returns-clause-taken : goal.returns-clause-taken
-returns-clause-taken c =
+pub returns : goal.returns
+returns c =
     λ m rest e.
     let a = c.args in
-    let n = a.ports.now.numbers in
-    let b = a.ports.now.bytes in
+    let n = a.numbers.now in
+    let b = a.bytes.now in
     let q = port_at n b a.k in
     let st = store_at n b a.k in
     let some = some-count n b a.k c.requires.fact in
@@ -33,15 +33,15 @@ returns-clause-taken c =
       c.oldest.ensures ∙ ap oldest_of c.take_store-st.ensures ∙ oldest-head st some m rest held,
       put_is
           (put-dropped n b a.k
-          (row_is c.set_number.ensures.row (ap (λ (s : Store). set (Held.row_of n a.k) 3 s.oldest) left))
-          (row_is c.set_number-2.ensures.row (ap (λ (s : Store). set (Held.row_of c.set_number.new.self.numbers a.k) 4 s.count) left)))
+          (row_is c.set_number.ensures (ap (λ (s : Store). set (Held.row_of n a.k) 3 s.oldest) left))
+          (row_is c.set_number-2.ensures (ap (λ (s : Store). set (Held.row_of c.set_number.new.numbers a.k) 4 s.count) left)))
           (ap (with_queue q) (rest-is st some m rest held)),
     )
 
 pub oldest-requires : goal.oldest-requires
 oldest-requires c =
     let a = c.args in
-    let some = some-count a.ports.now.numbers a.ports.now.bytes a.k c.requires.fact in
+    let some = some-count a.numbers.now a.bytes.now a.k c.requires.fact in
     let taken = sym c.take_store-st.ensures in
     record {
       count_nonzero = subst (λ (st : Store). 0 < st.count) taken some;

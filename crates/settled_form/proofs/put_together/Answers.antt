@@ -3,18 +3,16 @@ use Rattle.settled_form.proofs.put_together.Goals as goal
 
 pub loop-k-init : goal.loop-k-init
 loop-k-init c =
-    let ports = c.args.ports.now in
-    let out = c.args.out.now in
-    record { numbers_put = numbers-none ports.numbers ports.bytes out.numbers; bytes_put = bytes-none ports.numbers ports.bytes out.bytes }
+    let a = c.args in
+    record { numbers_put = numbers-none a.numbers.now a.bytes.now a.out_numbers.now; bytes_put = bytes-none a.numbers.now a.bytes.now a.out_bytes.now }
 
 pub loop-k-preserved : goal.loop-k-preserved
 loop-k-preserved c =
-    let ports = c.args.ports.now in
-    let out = c.args.out.now in
+    let a = c.args in
     let k = c.loop-k.k in
     let so_far = c.loop-k.invariant in
     let put = c.put_port.ensures in
     record {
-      numbers_put = numbers-next ports.numbers ports.bytes out.numbers k so_far.numbers_put put.numbers_laid;
-      bytes_put = bytes_next ports.numbers ports.bytes out.bytes k so_far.bytes_put put.bytes_laid;
+      numbers_put = numbers-next a.numbers.now a.bytes.now a.out_numbers.now k so_far.numbers_put put.numbers_laid;
+      bytes_put = bytes_next a.numbers.now a.bytes.now a.out_bytes.now k so_far.bytes_put put.bytes_laid;
     }

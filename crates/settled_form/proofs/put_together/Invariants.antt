@@ -4,4 +4,4 @@ use Rattle.settled_form.specs.Settled.{PutTogether}
 use Rattle.settled_form.proofs.put_together.Given as goal
 
 abbrev pub invariant-loop-k : goal.invariant-loop-k
-invariant-loop-k l = PutTogether l.ports.numbers l.ports.bytes l.k l.initial.out.numbers l.initial.out.bytes l.out.numbers l.out.bytes
+invariant-loop-k l = PutTogether l.numbers l.bytes l.k l.initial.out_numbers l.initial.out_bytes l.out_numbers l.out_bytes

@@ -12,8 +12,8 @@ overflow_cast-result c =
 pub run_events-last-requires-clause-ready : goal.run_events-last-requires-clause-ready
 run_events-last-requires-clause-ready c = Laws.ready_of c.args.tables.bytes.now c.args.state c.requires.sound.0 c.requires.sound.1
 
-pub put_together-requires : goal.put_together-requires
-put_together-requires c =
+pub put_together-requires-clause-stored : goal.put_together-requires-clause-stored
+put_together-requires-clause-stored c =
     let t = c.args.tables.bytes.now in
     let few = (accepted t c.requires.sound.0).few_ports in
     record {

@@ -34,11 +34,11 @@ returns c =
     let room : length q.queue < a.depth = omega (arith, held, read, c.if-depth-number.false) in
     put_is c.put_store.ensures
     (ap (with_queue q)
-    (c.append.ensures.queued
+    (c.push.ensures.queued
     ∙ ap (λ queue. queue ++ m ∷ []) (ap queue_of c.take_store-st.ensures ∙ store-queue n b a.k)
     ∙ sym (offer-room a.depth q.queue m room)))
 
-pub append-requires : goal.append-requires
-append-requires c =
+pub push-requires : goal.push-requires
+push-requires c =
     let a = c.args in
     omega (arith, c.requires.1, c.number.ensures, c.if-depth-number.false, ap (λ st. st.count) c.take_store-st.ensures, store-count a.ports.now.numbers a.ports.now.bytes a.k)

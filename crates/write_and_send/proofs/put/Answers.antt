@@ -17,20 +17,20 @@ use Rattle.write_and_send.proofs.put.Goals as goal
 pub returns-then-call-eq0 : goal.returns-then-call-eq0
 returns-then-call-eq0 c =
     let a = c.args in
-    rw (put-empty _ _ (call_of a.call) _ c.if-call-eq0.true) (kept c.refusal.ensures)
+    rw (put-empty _ _ (call_of a.call) _ c.if-call-eq0.true) (kept c.refused.ensures)
 
 pub returns-then-row-call : goal.returns-then-row-call
 returns-then-row-call c =
     let a = c.args in
     let some : a.call.size ≡ 0 → ⊥ = assumption in
-    rw (put-long (row_of a.row) _ (call_of a.call) _ some c.if-row-call.true) (kept c.refusal-then-row-call.ensures)
+    rw (put-long (row_of a.row) _ (call_of a.call) _ some c.if-row-call.true) (kept c.refused-then-row-call.ensures)
 
 pub returns-then-not-directed : goal.returns-then-not-directed
 returns-then-not-directed c =
     let a = c.args in
     let some : a.call.size ≡ 0 → ⊥ = assumption in
     let room : a.call.size ≤ a.row.largest = omega arith in
-    rw (put_wrong (row_of a.row) _ (call_of a.call) _ some room (sym c.directed.ensures ∙ c.if-not-directed.true)) (kept c.refusal-then-not-directed.ensures)
+    rw (put_wrong (row_of a.row) _ (call_of a.call) _ some room (sym c.directed.ensures ∙ c.if-not-directed.true)) (kept c.refused-then-not-directed.ensures)
 
 pub returns : goal.returns
 returns c =

@@ -12,8 +12,8 @@ use Rattle.stores.proofs.Store.settled.Goals as goal
 pub loop-i-init : goal.loop-i-init
 loop-i-init c = c.empty-settled.ensures ∙ sym lay_out-none
 
-pub append-requires : goal.append-requires
-append-requires c =
+pub push-requires : goal.push-requires
+push-requires c =
     let st = c.args.self.now in
     let i : ℕ = c.loop-i.i in
     let few : st.count ≤ 8 = c.requires.few in
@@ -29,7 +29,7 @@ loop-i-preserved c =
     let few : st.count ≤ 8 = c.requires.few in
     let size = message-length st (search rules) (search rules) (slot_of st i) in
     let short : length (message_in st (slot_of st i)) ≤ 64 = omega (arith, size, c.requires.short i (omega arith)) in
-    c.append.ensures.appended ∙ ap₂ appended c.loop-i.invariant c.letter.ensures ∙ lay_out-next st i (omega arith) (omega arith) short
+    c.push.ensures.appended ∙ ap₂ appended c.loop-i.invariant c.letter.ensures ∙ lay_out-next st i (omega arith) (omega arith) short
 
 pub returns : goal.returns
 returns c =
