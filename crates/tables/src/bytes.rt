@@ -11,10 +11,11 @@ fn byte_at(t: &[u8], at: usize) -> u8
 pub fn word16_at(t: &[u8], at: usize) -> u32
     ensures { result ≡ word16 t.now at }
 {
-    if at < t.len() {
-        u32::from(u16::from_le_bytes([t[at], byte_at(t, at + 1)]))
+    // both bytes are there but at the very end: one test for the two, since the ends of channels are read by the thousand
+    if 2 <= t.len().saturating_sub(at) {
+        word16(t, at)
     } else {
-        0
+        u32::from(byte_at(t, at))
     }
 }
 
