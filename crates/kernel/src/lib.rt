@@ -32,7 +32,8 @@ pub fn in_range(t: &[u8], state: State) -> bool
     tested_run::sound(t, state)
 }
 
-// A list of whole records: 28, 29, then the list. An empty list is run and does nothing. The records of each kind are counted once for the call.
+// A list of whole records: 28, 29, then the list. An empty list is run and does nothing. The loader counts the records of each kind for its verdict; here they are counted
+// once more, and handed down.
 fn carry_out(
     t: &[u8],
     state: State,
