@@ -39,7 +39,7 @@ fn unmake_all(tables: Tables, numbers: &mut [u32], p: u8)
 }
 
 // How mode m asked for in a mode is judged: above 3, 3; NORMAL in NORMAL, 1; WARM_START in COLD_START, 5; else it may be set.
-// Modes stay bytes: what may not change is that `set_mode` answers every byte an event may hold (its clause `called`).
+// Modes stay bytes: what may not change is that `set_mode` answers every byte an event may hold.
 #[tactic(auto, using(std::proofs::lemmas::Bool::Decides::nat_tests), unfolding(model::specs::Services::set_mode))]
 fn judged(m: u8, mode: u8) -> Result<(), Refusal>
     ensures { (t : List ℕ) (s : State) (p : ℕ) → mode_of s p ≡ mode
